@@ -1,0 +1,2 @@
+//! Worked examples of the rules, each answer found by computing.
+#![tactic(auto)]

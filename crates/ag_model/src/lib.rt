@@ -1,0 +1,10 @@
+//! The plain data of an availability group, and what speaks of logs alone.
+#![tactic(auto)]
+
+pub mod answer;
+pub mod config;
+pub mod event;
+pub mod list;
+pub mod message;
+pub mod record;
+pub mod value;
