@@ -1,0 +1,8 @@
+-- Where an event happens, as the rules see it.
+use Rattle.std.specs.Prelude.{[]}
+use Rattle.ag_node.specs.declared.site.Site.{Site}
+use Rattle.ag_rules.specs.Plan.{Here}
+
+-- the place of an event that asks for no modes
+abbrev pub here_at : Site → Here
+here_at site = record { number = site.number; pages = site.pages; modes = []; store = site.store }

@@ -1,0 +1,4 @@
+//! One replica: what each event does there.
+#![tactic(auto)]
+
+pub mod site;
