@@ -3,7 +3,7 @@ ghost use Rattle.std.specs.Prelude.{◌≡◌};
 ghost use Rattle.ag_model.specs.declared.value.NoMemory.{NoMemory};
 
 use crate::list::ListOf;
-use std::alloc::AllocError;
+use std::alloc::{AllocError, AllocFailed};
 
 /// A value of 0 to 64 bytes. The bytes from `len` on are zero.
 #[derive(Clone, Copy, Debug, PartialEq, Eq)]
@@ -56,6 +56,14 @@ impl From<AllocError> for NoMemory {
     ghost from_gives = { λ _ e. e ≡ record {} };
 
     fn from(_e: AllocError) -> NoMemory {
+        NoMemory
+    }
+}
+
+impl<T: Drop> From<AllocFailed<T>> for NoMemory {
+    ghost from_gives = { λ _ e. e ≡ record {} };
+
+    fn from(_e: AllocFailed<T>) -> NoMemory {
         NoMemory
     }
 }

@@ -1,0 +1,12 @@
+pub mod MarksSteps
+pub mod Folds
+pub mod Quiet
+pub mod RoomUsed
+pub mod RoomLog
+pub mod RoomPairs
+pub mod LogEnds
+pub mod LogStarts
+pub mod LogCopies
+pub mod LogMore
+pub mod NodeSteps
+pub mod Rising

@@ -1,2 +1,8 @@
 pub mod View
 pub mod Sites
+pub mod Room
+pub mod Folded
+pub mod Marked
+pub mod LogKept
+pub mod Nodes
+pub mod Out

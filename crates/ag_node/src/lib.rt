@@ -1,4 +1,12 @@
 //! One replica: what each event does there.
 #![tactic(auto)]
 
+mod listed;
+mod log;
+mod marks;
+pub mod node;
+mod opening;
+mod peer;
+mod room;
+mod rows;
 pub mod site;

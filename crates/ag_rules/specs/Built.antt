@@ -1,11 +1,14 @@
--- Which event lines are built so far, and how many a scenario may have.
-use Rattle.std.specs.Prelude.{◌≡◌, ℕ, List, length}
+-- Which event lines are built so far, what they send, and how many a scenario may have.
+use Rattle.std.specs.Prelude.{◌≡◌, ◌<◌, ℕ, List, length}
 use Rattle.std.specs.List.{AllByRecursion}
 use Rattle.ag_model.specs.declared.event.Who.{Who}
 use Rattle.ag_model.specs.declared.event.Who.TheVariants.{Letter}
 use Rattle.ag_model.specs.declared.event.Suffix.TheVariants.{Whole}
 use Rattle.ag_model.specs.declared.event.Event.{Event}
 use Rattle.ag_model.specs.declared.event.Event.TheVariants.{Set, Harden, Send, Deliver, Redo, Read}
+use Rattle.ag_model.specs.declared.message.Message.{Message}
+use Rattle.ag_model.specs.declared.message.Body.{Body}
+use Rattle.ag_model.specs.declared.message.Body.TheVariants.{Block, Ack}
 
 -- the word of the first replica
 abbrev pub A : Who
@@ -28,6 +31,16 @@ IsBuilt _ = ⊥
 -- all of these events are built
 abbrev pub AreBuilt : List Event → Type 0
 AreBuilt es = AllByRecursion IsBuilt es
+
+-- what a message of these events says: a block of some records, or an Ack
+abbrev pub IsBuiltBody : Body → Type 0
+IsBuiltBody (Block b) = 0 < length b.records
+IsBuiltBody (Ack hardened low) = Unit {0}
+IsBuiltBody _ = ⊥
+
+-- a message of these events
+abbrev pub IsBuiltMessage : Message → Type 0
+IsBuiltMessage message = IsBuiltBody message.body
 
 -- the most event lines that a scenario may have
 abbrev pub most_events : ℕ

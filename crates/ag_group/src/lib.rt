@@ -1,0 +1,4 @@
+//! The group: its nodes, the links between them, the store and the sessions.
+#![tactic(auto)]
+
+mod links;

@@ -1,0 +1,14 @@
+use Rattle.std.proofs.Common.{◌≡◌, ◌≤◌, length, ap, ◌∙◌, subst}
+use Rattle.std.specs.Prelude.{IfSome}
+use Rattle.ag_model.specs.declared.record.Log.{Log}
+use Rattle.ag_model.specs.Blocks.{end_of_block}
+use Rattle.ag_node.proofs.LogEnds.{rises_from, bounded}
+use Rattle.ag_node.proofs.log.HardenedLog.block_from.Goals as goal
+
+pub block_end-requires : goal.block_end-requires
+block_end-requires c = rw c.as_slice.ensures.value (rises_from 0 _ _ c.self.invariant.rises)
+
+pub returns-clause-bounds : goal.returns-clause-bounds
+returns-clause-bounds c =
+    subst (λ (log : Log). IfSome c.block_end.result (λ last. (1 ≤ c.args.first) × (c.args.first ≤ last) × (last ≤ length log.records))) c.self.view_is
+    (bounded c.block_end.result 0 _ c.args.first _ c.self.invariant.rises (c.block_end.ensures ∙ ap (end_of_block 0 c.args.first) c.as_slice.ensures.value))

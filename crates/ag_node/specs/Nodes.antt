@@ -1,0 +1,28 @@
+-- What holds of the fields of each node.
+use Rattle.std.specs.Prelude.{◌≡◌, ℕ, ◌≤◌, List, [], length, ◌++◌, Bool, true, false, Option, Some, None}
+use Rattle.ag_model.specs.declared.record.Record.{Record}
+use Rattle.ag_model.specs.declared.record.Log.{Log}
+use Rattle.ag_model.specs.declared.answer.Refusal.{Refusal}
+use Rattle.ag_model.specs.Sizes.{records_size}
+use Rattle.ag_rules.specs.Plan.{Check}
+use Rattle.ag_rules.specs.Replica.{Leading, Peer}
+use Rattle.std.specs.List.{All}
+use Rattle.ag_node.specs.Room.{IsSetLog}
+
+-- what a node knows as primary; no transaction is open between events
+abbrev pub leading_of : List Record → ℕ → ℕ → List Peer → Leading
+leading_of buffer last_txn synced peers = record { buffer = buffer; open_txns = []; last_txn = last_txn; synced = synced; peers = peers }
+
+-- the numbers that a node keeps beside its log and buffer are theirs
+pub record IsNode (leads : Bool) (log : Log) (front : ℕ) (pages : ℕ) (buffer : List Record) (bytes last_txn : ℕ) (used : List ℕ) : Type 0 where
+  pub some_pages : 16 ≤ pages
+  pub few_pages : pages ≤ 2048
+  pub redone : front ≤ length log.records
+  pub counted : bytes ≡ records_size buffer
+  pub room : leads ≡ true → IsSetLog pages last_txn (log.records ++ buffer) used
+  pub small : All (λ bytes. bytes ≤ 8144) used
+
+-- this refusal is what the check says, and none is where the check doesn't hold
+abbrev pub IsRefusedBy : Option Refusal → Check → Type 0
+IsRefusedBy None check = check.when ≡ false
+IsRefusedBy (Some why) check = (check.when ≡ true) × (why ≡ check.refusal)

@@ -1,0 +1,144 @@
+//! One replica.
+ghost use Rattle.std.specs.Prelude.{List, ◌≡◌, ◌∷◌, [], IfOk, false, true};
+ghost use Rattle.ag_model.specs.declared.record.Record.{Record};
+ghost use Rattle.ag_model.specs.Sizes.{records_size};
+ghost use Rattle.ag_rules.specs.Replica.{end, front, is_reverting};
+ghost use Rattle.ag_rules.specs.Group.{opening_replica};
+ghost use Rattle.ag_rules.specs.Promotion.{log_check};
+ghost use Rattle.ag_rules.specs.Script.{IsConfig};
+ghost use Rattle.ag_node.specs.Nodes.{IsRefusedBy};
+
+mod following;
+mod leading;
+
+use crate::log::{HardenedLog, block_sectors_of};
+use crate::opening::{opening_peers, synced_at_opening};
+use crate::peer::PeerState;
+use crate::site::Site;
+use ag_model::answer::{Answer, Refusal};
+use ag_model::config::Config;
+use ag_model::list::ListOf;
+use ag_model::record::RecordList;
+use ag_model::value::NoMemory;
+use std::alloc::Global;
+use std::marker::Model;
+
+/// The term of the opening, in which every node is.
+const TERM: u64 = 1;
+
+/// One replica, which a contract sees as the replica of the rules. It has been up since the opening, in the first term.
+#[derive(Drop)]
+pub struct Node {
+    leads: bool,
+    log: HardenedLog,
+    /// Where all stripes stand and what they have published, an LSN.
+    front: u64,
+    /// One flag a data page.
+    dirty: Vec<bool>,
+    buffer: RecordList,
+    /// The bytes of the buffer's records.
+    buffered: u64,
+    last_txn: u64,
+    synced: u16,
+    peers: Vec<PeerState>,
+    /// The bytes that versions take on each data page, the buffer's too; of a primary.
+    used: Vec<u32>,
+}
+
+impl Model for Node {
+    ghost use Rattle.std.specs.Prelude.{length};
+    ghost use Rattle.ag_rules.specs.Replica.{Replica};
+    ghost use Rattle.ag_node.specs.View.{node_of};
+    ghost use Rattle.ag_node.specs.Nodes.{IsNode, leading_of};
+
+    ghost Value = { Replica };
+
+    ghost view = { λ n. node_of n.leads n.log n.front n.dirty.items (leading_of n.buffer n.last_txn n.synced n.peers.items) };
+
+    ghost invariant = { λ n. IsNode n.leads n.log n.front (length n.dirty.items) n.buffer n.buffered n.last_txn n.used.items };
+}
+
+impl Node {
+    /// The term that it follows.
+    pub fn term(&self) -> u64
+        ensures { result ≡ self.now.term }
+    {
+        let _ = &self.leads;
+        TERM
+    }
+
+    /// Whether it is primary.
+    fn leads(&self) -> bool
+        ensures is { result ≡ self.now.leads }
+        ensures up { self.now.up ≡ true }
+        ensures term { self.now.term ≡ 1 }
+        ensures steady { is_reverting self.now.state ≡ false }
+        ensures follows { self.now.leads ≡ false → self.now.state ≡ 1 }
+        ensures leading { self.now.leads ≡ true → self.now.state ≡ 0 }
+    {
+        self.leads
+    }
+
+    /// Where its hardened log ends, an LSN.
+    fn end(&self) -> u64
+        ensures { result ≡ end self.now }
+    {
+        self.log.end()
+    }
+
+    /// The front that reads see, an LSN.
+    fn front(&self) -> u64
+        ensures { result ≡ front self.now }
+    {
+        self.front
+    }
+
+    /// Why the log has no room for a block of these bytes, if it has none.
+    fn log_refusal(&self, bytes: u64) -> Result<Option<Refusal>, NoMemory>
+        ensures { IfOk result (λ why. (new : List Record) → records_size new ≡ bytes → IsRefusedBy why (log_check self.now (new ∷ []))) }
+    {
+        let need = block_sectors_of(bytes);
+        let free = self.log.free_sectors();
+        if free < need {
+            Ok(Some(Refusal::LogFull { need, free }))
+        } else {
+            Ok(None)
+        }
+    }
+
+    /// A replica at the opening: the primary, or one that follows it.
+    #[tactic(auto, unfolding(ag_rules::specs::Group::opening_replica))]
+    pub fn opening(alloc: Global, config: &Config, leads: bool) -> Result<Node, NoMemory>
+        requires { IsConfig config.now }
+        ensures { IfOk result (λ node. node ≡ opening_replica config.now leads) }
+    {
+        let modes = config.modes.as_slice();
+        let (synced, peers) = if leads {
+            (synced_at_opening(modes), opening_peers(alloc, modes)?)
+        } else {
+            (0, Vec::new(alloc))
+        };
+        Ok(Node {
+            leads,
+            log: HardenedLog::opening(alloc)?,
+            front: 1,
+            dirty: vec![in alloc; false; usize::from(config.pages)]?,
+            buffer: ListOf::new(alloc),
+            buffered: 0,
+            last_txn: 0,
+            synced,
+            peers,
+            used: vec![in alloc; 0; usize::from(config.pages)]?,
+        })
+    }
+}
+
+/// The refusal of a replica that isn't primary.
+fn not_primary(site: &Site) -> Answer
+    ensures { result ≡ Answer.No (Refusal.NotPrimary site.now.number site.now.store.primary) }
+{
+    Answer::No(Refusal::NotPrimary {
+        node: site.number,
+        primary: site.store.primary,
+    })
+}

@@ -1,0 +1,178 @@
+//! What the events of a secondary do.
+ghost use Rattle.std.specs.Prelude.{◌≡◌, ◌<◌, ◌∷◌, [], IfOk, OnOk, IfSome, length, false};
+ghost use Rattle.ag_model.specs.Blocks.{with_block};
+ghost use Rattle.ag_rules.specs.Replica.{end, front};
+ghost use Rattle.ag_rules.specs.Promotion.{log_check};
+ghost use Rattle.ag_rules.specs.Redo.{touched_up_to};
+ghost use Rattle.ag_rules.specs.RedoEvent.{redo_part, redoes_touching};
+ghost use Rattle.ag_rules.specs.ReadEvent.{read_part, reads_at};
+ghost use Rattle.ag_rules.specs.Messages.{ack_message};
+ghost use Rattle.ag_rules.specs.BlockMessage.{block_part};
+ghost use Rattle.ag_rules.specs.Built.{IsBuiltMessage};
+ghost use Rattle.ag_node.specs.Out.{posting_of};
+ghost use Rattle.ag_node.specs.Sites.{here_at};
+ghost use Rattle.ag_node.specs.Nodes.{IsRefusedBy};
+
+use super::{Node, TERM};
+use crate::log::{copy_of, records_size};
+use crate::marks::mark;
+use crate::rows::{horizon_at, row_at};
+use crate::site::Site;
+use ag_model::answer::{Answer, Refusal};
+use ag_model::config::Token;
+use ag_model::message::{Block, Body, Message};
+use ag_model::record::{Record, RecordList};
+use ag_model::value::{NoMemory, Row};
+
+impl Node {
+    /// `redo` at this replica: every stripe is applied to the end and raised.
+    #[tactic(auto, unfolding(ag_rules::specs::RedoEvent::redo_part))]
+    pub fn redo(&mut self, site: &Site) -> Answer
+        requires pages { site.now.pages ≡ length self.old.pages }
+        ensures answer { result ≡ (redo_part (here_at site.now) self.old).answer }
+        ensures after { self.new ≡ (redo_part (here_at site.now) self.old).after }
+    {
+        if self.leads() {
+            return Answer::No(Refusal::NotSecondary { node: site.number });
+        }
+        let lsn = self.redo_all(site.pages);
+        Answer::Front { lsn }
+    }
+
+    /// Applies the log to the pages, to its end.
+    fn redo_all(&mut self, pages: u16) -> u64
+        requires pages { pages ≡ length self.old.pages }
+        requires follows { self.old.leads ≡ false }
+        ensures lsn { result ≡ end self.old }
+        ensures after { self.new ≡ (redoes_touching pages self.old (touched_up_to pages (end self.old) self.old)).after }
+    {
+        let records = self.log.records();
+        mark(self.dirty.as_mut_slice(), &records[self.front as usize..]);
+        self.front = self.log.end();
+        self.front
+    }
+
+    /// `read` at this replica, for a session with this token.
+    #[tactic(auto, unfolding(ag_rules::specs::ReadEvent::read_part))]
+    pub fn read(&self, site: &Site, token: &Token, key: u32) -> Answer
+        requires pages { site.now.pages ≡ length self.now.pages }
+        ensures { result ≡ (read_part (here_at site.now) self.now token.now key).answer }
+    {
+        if self.leads() {
+            return Answer::No(Refusal::NotSecondary { node: site.number });
+        }
+        if TERM < token.term {
+            return Answer::No(Refusal::OldTerm {
+                term: TERM,
+                seen: token.term,
+            });
+        }
+        let front = self.front();
+        if TERM == token.term && front < token.lsn {
+            return Answer::No(Refusal::Behind {
+                front,
+                seen: token.lsn,
+            });
+        }
+        self.row_at_front(site, key)
+    }
+
+    /// The row of a key at the front, where its page allows it.
+    fn row_at_front(&self, site: &Site, key: u32) -> Answer
+        requires pages { site.now.pages ≡ length self.now.pages }
+        ensures { result ≡ (reads_at (here_at site.now) self.now (front self.now) key).answer }
+    {
+        let records = self.log.records();
+        let page = 16 + (key % u32::from(site.pages)) as u16;
+        let horizon = horizon_at(site.pages, records, self.front as usize, page);
+        if self.front < horizon {
+            return Answer::No(Refusal::TooOld {
+                snapshot: self.front,
+                horizon,
+            });
+        }
+        match row_at(records, self.front as usize, key) {
+            Row::Found(value) => Answer::Row {
+                front: self.front,
+                value,
+            },
+            Row::Absent => Answer::Absent { front: self.front },
+        }
+    }
+
+    /// A block comes from a replica, the link back to which may be full: it is hardened where it is the next one.
+    #[tactic(auto, unfolding(ag_rules::specs::BlockMessage::block_part))]
+    pub fn block(
+        &mut self,
+        site: &Site,
+        from: u8,
+        full: bool,
+        term: u64,
+        block: &Block,
+    ) -> Result<(Answer, Option<Message>), NoMemory>
+        requires some { 0 < length block.now.records }
+        ensures answer { IfOk result (λ x. x.0 ≡ (block_part (here_at site.now) from self.old full term block.now).answer) }
+        ensures out { IfOk result (λ x. posting_of from x.1 ≡ (block_part (here_at site.now) from self.old full term block.now).out) }
+        ensures after { OnOk result (self.new ≡ (block_part (here_at site.now) from self.old full term block.now).after) }
+    {
+        if self.leads() || term != TERM {
+            return Ok((Answer::No(Refusal::Nothing), None));
+        }
+        let end = self.end();
+        let expected = end.checked_add(1).ok_or(NoMemory)?;
+        if expected < block.first {
+            let first = block.first;
+            return Ok((Answer::No(Refusal::Gap { expected, first }), None));
+        }
+        if full {
+            return Ok((
+                Answer::No(Refusal::LinkFull {
+                    node: site.number,
+                    to: from,
+                }),
+                None,
+            ));
+        }
+        if block.first <= end {
+            return Ok((Answer::No(Refusal::Nothing), Some(self.ack(end))));
+        }
+        if let Some(why) = self.block_refusal(block.records.as_slice())? {
+            return Ok((Answer::No(why), None));
+        }
+        let lsn = end.checked_add(block.records.len() as u64).ok_or(NoMemory)?;
+        let message = self.ack(lsn);
+        self.append_block(&block.records)?;
+        Ok((Answer::Hardened { lsn }, Some(message)))
+    }
+
+    /// Why the log has no room for a block of these records, if it has none.
+    fn block_refusal(&self, new: &[Record]) -> Result<Option<Refusal>, NoMemory>
+        ensures { IfOk result (λ why. IsRefusedBy why (log_check self.now (new.now ∷ []))) }
+    {
+        self.log_refusal(records_size(new)?)
+    }
+
+    /// Hardens a block that came.
+    fn append_block(&mut self, new: &RecordList) -> Result<(), NoMemory>
+        requires some { 0 < length new.now }
+        requires follows { self.old.leads ≡ false }
+        ensures { OnOk result (self.new ≡ record self.old { kept = record self.old.kept { log = with_block self.old.kept.log new.now } }) }
+    {
+        let mut records = copy_of(new)?;
+        self.log.append(&mut records)?;
+        Ok(())
+    }
+
+    /// The Ack of a replica that has hardened up to an LSN.
+    fn ack(&self, hardened: u64) -> Message
+        ensures { result ≡ ack_message self.now hardened }
+    {
+        Message {
+            term: TERM,
+            body: Body::Ack {
+                hardened,
+                low: self.front,
+            },
+        }
+    }
+}

@@ -1,0 +1,259 @@
+//! What the events of a primary do.
+ghost use Rattle.std.specs.Prelude.{◌≡◌, ◌+◌, ◌≤◌, ◌==◌, ◌∷◌, [], IfOk, OnOk, IfSome, length, false, true, MatchOption, nat_eq};
+ghost use Rattle.std.specs.List.{AllByRecursion};
+ghost use Rattle.ag_model.specs.declared.event.Pair.{Pair};
+ghost use Rattle.ag_rules.specs.Replica.{end, full_end, peer, with_peer};
+ghost use Rattle.ag_rules.specs.Plan.{Part};
+ghost use Rattle.ag_rules.specs.Promotion.{log_check, is_spent};
+ghost use Rattle.ag_rules.specs.SetEvent.{set_part, sets, pairs_pass, records_of_set};
+ghost use Rattle.ag_rules.specs.Redo.{due_pages};
+ghost use Rattle.ag_rules.specs.HardenEvent.{harden_part, hardens, hardened_one};
+ghost use Rattle.ag_rules.specs.SendEvent.{send_part, block_to_send, block_message, with_sent};
+ghost use Rattle.ag_rules.specs.AckMessage.{ack_message_part, known_peer};
+ghost use Rattle.ag_rules.specs.Built.{IsBuiltMessage};
+ghost use Rattle.ag_node.specs.Out.{posting_of};
+ghost use Rattle.ag_node.specs.Room.{unless_some};
+ghost use Rattle.ag_node.specs.Sites.{here_at};
+ghost use Rattle.ag_node.specs.Nodes.{IsRefusedBy};
+
+use super::{Node, TERM, not_primary};
+use crate::listed::records_of_set;
+use crate::log::records_size;
+use crate::marks::mark;
+use crate::room::{first_full, spend};
+use crate::site::Site;
+use ag_model::answer::{Answer, Refusal};
+use ag_model::event::{Pair, PairList};
+use ag_model::message::{Block, Body, Message};
+use ag_model::value::NoMemory;
+use std::alloc::Global;
+
+/// The most bytes of records that the buffer holds.
+const BUFFER_BYTES: u64 = 15_488;
+
+impl Node {
+    /// `set` at this replica: a whole transaction of these puts.
+    #[tactic(auto, unfolding(ag_rules::specs::SetEvent::set_part))]
+    pub fn set(&mut self, alloc: Global, site: &Site, pairs: &PairList) -> Result<Answer, NoMemory>
+        requires pages { site.now.pages ≡ length self.old.pages }
+        requires few { length pairs.now ≤ 8 }
+        requires values { AllByRecursion (λ (pair : Pair). pair.value.len ≤ 64) pairs.now }
+        ensures answer { IfOk result (λ a. a ≡ (set_part (here_at site.now) self.old pairs.now).answer) }
+        ensures after { OnOk result (self.new ≡ (set_part (here_at site.now) self.old pairs.now).after) }
+    {
+        if !self.leads() {
+            return Ok(not_primary(site));
+        }
+        if self.is_spent() {
+            return Ok(Answer::No(Refusal::Spent));
+        }
+        if let Some(why) = self.full_page(site, pairs.as_slice()) {
+            return Ok(Answer::No(why));
+        }
+        Ok(self.set_pairs(alloc, site.pages, pairs.as_slice())?)
+    }
+
+    /// Whether no transaction can begin any more.
+    fn is_spent(&self) -> bool
+        ensures { result ≡ is_spent self.now.leading.last_txn }
+    {
+        self.last_txn >= 9_223_372_036_854_775_808
+    }
+
+    /// Why a pair has no room on its page, the first that has none.
+    fn full_page(&self, site: &Site, pairs: &[Pair]) -> Option<Refusal>
+        requires pages { site.now.pages ≡ length self.now.pages }
+        requires leads { self.now.leads ≡ true }
+        requires few { length pairs.now ≤ 8 }
+        ensures { (part : Part) → pairs_pass (here_at site.now) self.now (self.now.leading.last_txn + 1) [] pairs.now part ≡ unless_some result self.now part }
+    {
+        first_full(site.pages, self.used.as_slice(), pairs)
+    }
+
+    /// The LSN of the record so many after the buffer's last.
+    fn lsn_after(&self, more: u64) -> Result<u64, NoMemory>
+        ensures { IfOk result (λ lsn. lsn ≡ full_end self.now + more) }
+    {
+        let end = self.log.end().checked_add(self.buffer.len() as u64);
+        let lsn = end.and_then(|end| end.checked_add(more));
+        Ok(lsn.ok_or(NoMemory)?)
+    }
+
+    /// The transaction, where the buffer has room for it.
+    fn set_pairs(&mut self, alloc: Global, pages: u16, pairs: &[Pair]) -> Result<Answer, NoMemory>
+        requires pages { pages ≡ length self.old.pages }
+        requires leads { self.old.leads ≡ true }
+        requires few { length pairs.now ≤ 8 }
+        ensures answer { IfOk result (λ a. a ≡ (sets self.old (records_of_set pages (self.old.leading.last_txn + 1) pairs.now)).answer) }
+        ensures after { OnOk result (self.new ≡ (sets self.old (records_of_set pages (self.old.leading.last_txn + 1) pairs.now)).after) }
+    {
+        let txn = self.last_txn.checked_add(1).ok_or(NoMemory)?;
+        let mut new = records_of_set(alloc, pages, txn, pairs)?;
+        let need = records_size(new.as_slice())?;
+        let free = BUFFER_BYTES.saturating_sub(self.buffered);
+        if free < need {
+            return Ok(Answer::No(Refusal::BufferFull { need, free }));
+        }
+        let lsn = self.lsn_after(new.len() as u64)?;
+        self.buffer.append(&mut new)?;
+        self.buffered = self.buffered.checked_add(need).ok_or(NoMemory)?;
+        self.last_txn = txn;
+        spend(pages, self.used.as_mut_slice(), pairs);
+        Ok(Answer::Lsn { lsn })
+    }
+
+    /// `harden` at this replica: the buffer becomes a block.
+    #[tactic(auto, unfolding(ag_rules::specs::HardenEvent::harden_part))]
+    pub fn harden(&mut self, site: &Site) -> Result<Answer, NoMemory>
+        requires pages { site.now.pages ≡ length self.old.pages }
+        ensures answer { IfOk result (λ a. a ≡ (harden_part (here_at site.now) self.old).answer) }
+        ensures after { OnOk result (self.new ≡ (harden_part (here_at site.now) self.old).after) }
+    {
+        if !self.leads() {
+            return Ok(not_primary(site));
+        }
+        if self.is_buffer_empty() {
+            return Ok(Answer::No(Refusal::Nothing));
+        }
+        if let Some(why) = self.buffer_refusal()? {
+            return Ok(Answer::No(why));
+        }
+        let lsn = self.harden_buffer(site.pages)?;
+        Ok(Answer::Hardened { lsn })
+    }
+
+    fn is_buffer_empty(&self) -> bool
+        ensures { result ≡ (length self.now.leading.buffer == 0) }
+    {
+        self.buffer.is_empty()
+    }
+
+    /// Why the log has no room for the buffer, if it has none.
+    fn buffer_refusal(&self) -> Result<Option<Refusal>, NoMemory>
+        ensures { IfOk result (λ why. IsRefusedBy why (log_check self.now (self.now.leading.buffer ∷ []))) }
+    {
+        self.log_refusal(self.buffered)
+    }
+
+    /// Makes the buffer a block of the log and applies it to the pages.
+    fn harden_buffer(&mut self, pages: u16) -> Result<u64, NoMemory>
+        requires pages { pages ≡ length self.old.pages }
+        requires leads { self.old.leads ≡ true }
+        requires some { (length self.old.leading.buffer == 0) ≡ false }
+        ensures lsn { IfOk result (λ lsn. lsn ≡ full_end self.old) }
+        ensures after { OnOk result (self.new ≡ (hardens pages self.old (due_pages pages (hardened_one pages self.old))).after) }
+    {
+        mark(self.dirty.as_mut_slice(), self.buffer.as_slice());
+        self.log.append(&mut self.buffer)?;
+        self.buffered = 0;
+        self.front = self.log.end();
+        Ok(self.front)
+    }
+
+    /// `send` at this replica: the next hardened block goes to replica m, whose link may be full.
+    #[tactic(auto, unfolding(ag_rules::specs::SendEvent::send_part))]
+    pub fn send(
+        &mut self,
+        alloc: Global,
+        site: &Site,
+        m: u8,
+        full: bool,
+    ) -> Result<(Answer, Option<Message>), NoMemory>
+        ensures answer { IfOk result (λ x. x.0 ≡ (send_part (here_at site.now) self.old m full).answer) }
+        ensures out { IfOk result (λ x. posting_of m x.1 ≡ (send_part (here_at site.now) self.old m full).out) }
+        ensures after { OnOk result (self.new ≡ (send_part (here_at site.now) self.old m full).after) }
+    {
+        if !self.leads() {
+            return Ok((not_primary(site), None));
+        }
+        let Some(first) = self.next_to_send(m) else {
+            return Ok((Answer::No(Refusal::NotConnected { node: m }), None));
+        };
+        let Some(last) = self.block_to_send(m, first) else {
+            return Ok((Answer::No(Refusal::Nothing), None));
+        };
+        if full {
+            return Ok((
+                Answer::No(Refusal::LinkFull {
+                    node: site.number,
+                    to: m,
+                }),
+                None,
+            ));
+        }
+        let message = self.send_block(alloc, m, first, last)?;
+        Ok((Answer::Sent { lsn: last }, Some(message)))
+    }
+
+    /// The LSN that replica m is sent next, where it is connected.
+    fn next_to_send(&self, m: u8) -> Option<u64>
+        ensures { MatchOption result ((peer self.now m).connected ≡ false) (λ first. ((peer self.now m).connected ≡ true) × (first ≡ (peer self.now m).next)) }
+    {
+        match self.peers.get(usize::from(m)) {
+            Some(peer) if peer.connected => Some(peer.next),
+            _ => None,
+        }
+    }
+
+    /// The end of the block to send next, where it is hardened.
+    fn block_to_send(&self, m: u8, first: u64) -> Option<u64>
+        requires { first ≡ (peer self.now m).next }
+        ensures end { result ≡ block_to_send self.now m }
+        ensures bounds { IfSome result (λ last. (1 ≤ first) × (first ≤ last) × (last ≤ end self.now)) }
+    {
+        self.log.block_from(first)
+    }
+
+    /// Takes the next block to a message to replica m.
+    fn send_block(
+        &mut self,
+        alloc: Global,
+        m: u8,
+        first: u64,
+        last: u64,
+    ) -> Result<Message, NoMemory>
+        requires connected { (peer self.old m).connected ≡ true }
+        requires first { first ≡ (peer self.old m).next }
+        requires bounds { (1 ≤ first) × (first ≤ last) × (last ≤ end self.old) }
+        ensures message { IfOk result (λ message. message ≡ block_message self.old (peer self.old m).next last) }
+        ensures after { OnOk result (self.new ≡ with_sent self.old m last) }
+    {
+        let block = Block {
+            first,
+            term: self.log.term_at(last),
+            records: self.log.copy_block(alloc, first, last)?,
+        };
+        let next = last.checked_add(1).ok_or(NoMemory)?;
+        let peer = &mut self.peers[usize::from(m)];
+        peer.next = next;
+        Ok(Message {
+            term: TERM,
+            body: Body::Block(block),
+        })
+    }
+
+    /// An Ack comes from a replica: what is known of it grows.
+    #[tactic(auto, unfolding(ag_rules::specs::AckMessage::ack_message_part))]
+    pub fn acknowledge(&mut self, from: u8, term: u64, hardened: u64, low: u64) -> Answer
+        ensures answer { result ≡ (ack_message_part from self.old term hardened low).answer }
+        ensures after { self.new ≡ (ack_message_part from self.old term hardened low).after }
+    {
+        if !self.leads() || term != TERM || self.next_to_send(from).is_none() {
+            return Answer::No(Refusal::Nothing);
+        }
+        let lsn = self.know(from, hardened, low);
+        Answer::Known { lsn }
+    }
+
+    /// Raises what is known of a connected replica.
+    fn know(&mut self, from: u8, hardened: u64, low: u64) -> u64
+        requires { (peer self.old from).connected ≡ true }
+        ensures lsn { result ≡ (known_peer (peer self.old from) hardened low).hardened }
+        ensures after { self.new ≡ with_peer self.old from (known_peer (peer self.old from) hardened low) }
+    {
+        let peer = &mut self.peers[usize::from(from)];
+        peer.hardened = peer.hardened.max(hardened);
+        peer.low = peer.low.max(low);
+        peer.hardened
+    }
+}

@@ -1,0 +1,132 @@
+//! The room that `set` needs, told by the bytes used on each page.
+ghost use Rattle.std.specs.Prelude.{◌≡◌, ℕ, ◌+◌, ◌-◌, ◌%◌, ◌<◌, ◌≤◌, [], length, None, get_or};
+ghost use Rattle.std.specs.List.{All};
+ghost use Rattle.ag_model.specs.Rows.{page_of};
+ghost use Rattle.ag_rules.specs.SetEvent.{pair_size, taken_on};
+ghost use Rattle.ag_node.specs.Room.{used_after, room_left, first_full};
+
+use ag_model::answer::Refusal;
+use ag_model::event::Pair;
+
+/// The bytes that the versions of a page may take.
+const PAGE_ROOM: u32 = 8144;
+
+/// The bytes of a pair on its page.
+fn pair_size(pair: &Pair) -> u32
+    ensures size { result ≡ pair_size pair.now }
+    ensures bound { result < 286 }
+{
+    30 + u32::from(pair.value.len)
+}
+
+/// The place of the page of a key among the pages.
+fn slot_of(pages: u16, key: u32) -> usize
+    requires { 0 < pages }
+    ensures { result ≡ key % pages }
+{
+    (key % u32::from(pages)) as usize
+}
+
+/// The bytes that the earlier pairs take on the page of a key.
+fn taken_on(pages: u16, key: u32, earlier: &[Pair]) -> u32
+    requires some { 0 < pages }
+    requires few { length earlier.now ≤ 8 }
+    ensures { result ≡ taken_on pages (page_of pages key) earlier.now }
+{
+    let slot = slot_of(pages, key);
+    let mut taken = 0;
+    for pair in earlier {
+        if slot_of(pages, pair.key) == slot {
+            taken += pair_size(pair);
+        }
+    }
+    taken
+}
+
+/// The bytes that the page of a pair has free, after the earlier pairs.
+fn room_left(pages: u16, used: &[u32], earlier: &[Pair], pair: &Pair) -> u32
+    requires some { 0 < pages }
+    requires each_page { length used.now ≡ pages }
+    requires few { length earlier.now ≤ 8 }
+    ensures { result ≡ room_left pages used.now earlier.now pair.now }
+{
+    let free = PAGE_ROOM.saturating_sub(used[slot_of(pages, pair.key)]);
+    free.saturating_sub(taken_on(pages, pair.key, earlier))
+}
+
+/// The refusal of the first pair whose page has no room for it after the earlier ones, where so many bytes are used on each page.
+pub(crate) fn first_full(pages: u16, used: &[u32], pairs: &[Pair]) -> Option<Refusal>
+    requires some { 0 < pages }
+    requires each_page { length used.now ≡ pages }
+    requires few { length pairs.now ≤ 8 }
+    ensures { result ≡ first_full pages used.now [] pairs.now }
+{
+    for (index, pair) in pairs.iter().enumerate() {
+        let need = pair_size(pair);
+        let free = room_left(pages, used, &pairs[..index], pair);
+        if free < need {
+            return Some(Refusal::PageFull {
+                need: u64::from(need),
+                free: u64::from(free),
+            });
+        }
+    }
+    None
+}
+
+/// Counts the bytes of pairs that fit on their pages.
+pub(crate) fn spend(pages: u16, used: &mut [u32], pairs: &[Pair])
+    requires some { 0 < pages }
+    requires each_page { length used.old ≡ pages }
+    requires small { All (λ bytes. bytes ≤ 8144) used.old }
+    requires fits { first_full pages used.old [] pairs.now ≡ None }
+    ensures after { used.new ≡ used_after pages pairs.now used.old }
+    ensures small { All (λ bytes. bytes ≤ 8144) used.new }
+{
+    for pair in pairs {
+        used[slot_of(pages, pair.key)] += pair_size(pair);
+    }
+}
+
+#[cfg(test)]
+mod tests {
+    use super::*;
+    use ag_model::value::Value;
+
+    fn pair(key: u32, len: u8) -> Pair {
+        Pair {
+            key,
+            value: Value {
+                len,
+                bytes: [0; 64],
+            },
+        }
+    }
+
+    // 86 values of 64 bytes take 86 * 94 = 8084 bytes, and leave 60
+    #[test]
+    fn the_last_value_of_a_page(rt: HostRuntime) {
+        let rows = [
+            (pair(0, 31), pair(1, 64), Some((61, 60))),
+            (pair(0, 30), pair(1, 64), None),
+            (pair(1, 64), pair(2, 31), Some((61, 60))),
+            (pair(0, 0), pair(2, 1), Some((31, 30))),
+            (pair(0, 0), pair(2, 0), None),
+        ];
+        for (first, second, full) in rows {
+            let want = full.map(|(need, free)| Refusal::PageFull { need, free });
+            assert_eq!(rt; first_full(2, &[8084, 0], &[first, second]), want);
+        }
+    }
+
+    #[test]
+    fn the_bytes_of_values_that_fit(rt: HostRuntime) {
+        let mut used = [8084, 0];
+        let pairs = [pair(0, 30), pair(1, 64)];
+        let full = first_full(2, &used, &pairs);
+        if full.is_none() {
+            spend(2, &mut used, &pairs);
+        }
+        assert_eq!(rt; used, [8144, 94]);
+    }
+}
