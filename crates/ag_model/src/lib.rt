@@ -6,5 +6,8 @@ pub mod config;
 pub mod event;
 pub mod list;
 pub mod message;
+pub mod page_set;
 pub mod record;
+#[cfg(test)]
+mod tests;
 pub mod value;
