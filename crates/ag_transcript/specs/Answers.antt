@@ -3,7 +3,7 @@ use Rattle.std.specs.Prelude.{ℕ, List, ◌++◌, codes}
 use Rattle.std.specs.Fmt.{decimal}
 use Rattle.ag_model.specs.declared.answer.Answer.{Answer}
 use Rattle.ag_model.specs.declared.answer.Answer.TheVariants.{Txn, OwnRow, OwnAbsent, Lsn, Ended, Hardened, SyncAt, LocalAt, Sent, Lost, Applied, Raised, Front, Row, Absent, Snap, Closed, Reported, Flushed, Crashed, Started, Spoiled, Asked, Suspects, PageBad, Page, Sectors, Status, Cut, Mended, Joined, Resumed, Synchronised, TimedOut, Primary, Reverted, Hello, State, Known, Refused, Gave, Installed, Holding, NoPage, Stopped, DeviceFailed, No}
-use Rattle.ag_transcript.specs.Words.{letter, value_text, list_text, role_text, cell_text, version_text, suspect_text}
+use Rattle.ag_transcript.specs.Words.{node_text, value_text, list_text, role_text, cell_text, version_text, suspect_text}
 use Rattle.ag_transcript.specs.Refusals.{refusal_text}
 
 -- an answer line without its end
@@ -38,11 +38,11 @@ answer_text (Sectors cells) = codes "sectors " ++ list_text cell_text cells
 answer_text (Status role state term end front) = codes "status " ++ role_text role ++ codes " " ++ decimal state ++ codes " " ++ decimal term ++ codes " " ++ decimal end ++ codes " " ++ decimal front
 answer_text Cut = codes "cut"
 answer_text Mended = codes "mended"
-answer_text (Joined term primary) = codes "joined " ++ decimal term ++ codes " " ++ letter primary
+answer_text (Joined term primary) = codes "joined " ++ decimal term ++ codes " " ++ node_text primary
 answer_text Resumed = codes "resumed"
 answer_text Synchronised = codes "synchronised"
 answer_text TimedOut = codes "timedout"
-answer_text (Primary node term lsn) = codes "primary " ++ letter node ++ codes " " ++ decimal term ++ codes " " ++ decimal lsn
+answer_text (Primary node term lsn) = codes "primary " ++ node_text node ++ codes " " ++ decimal term ++ codes " " ++ decimal lsn
 answer_text (Reverted lsn) = codes "reverted " ++ decimal lsn
 answer_text (Hello fork) = codes "hello " ++ decimal fork
 answer_text (State state end) = codes "state " ++ decimal state ++ codes " " ++ decimal end
@@ -53,5 +53,5 @@ answer_text (Installed page lsn) = codes "installed " ++ decimal page ++ codes "
 answer_text (Holding page lsn) = codes "holding " ++ decimal page ++ codes " " ++ decimal lsn
 answer_text (NoPage page) = codes "nopage " ++ decimal page
 answer_text (Stopped write step torn) = codes "stopped " ++ decimal write ++ codes " step=" ++ decimal step ++ codes " torn=" ++ list_text decimal torn
-answer_text (DeviceFailed node step) = codes "device_failed " ++ letter node ++ codes " step=" ++ decimal step
+answer_text (DeviceFailed node step) = codes "device_failed " ++ node_text node ++ codes " step=" ++ decimal step
 answer_text (No refusal) = codes "no " ++ refusal_text refusal

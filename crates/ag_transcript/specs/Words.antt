@@ -15,14 +15,18 @@ use Rattle.ag_model.specs.declared.value.Value.{Value}
 use Rattle.ag_model.specs.declared.value.Version.{Version}
 
 -- the letter of a replica, `A` for the first
-abbrev pub letter : ℕ → List ℕ
-letter n = (65 + n) % 256 ∷ []
+abbrev pub letter : ℕ → ℕ
+letter n = (65 + n) % 256
+
+-- a replica
+abbrev pub node_text : ℕ → List ℕ
+node_text n = letter n ∷ []
 
 -- two lower-case hex digits
 abbrev pub hex_pair : ℕ → List ℕ
 hex_pair b = digit_glyph false (b / 16) ∷ digit_glyph false (b % 16) ∷ []
 
--- the bytes in hex, or `-` for no byte
+-- the first `len` bytes in hex, or `-` for none
 abbrev pub value_text : Value → List ℕ
 value_text v = if v.len == 0 then codes "-" else flat_map hex_pair (take v.len v.bytes)
 
@@ -31,10 +35,12 @@ abbrev pub list_text : {A : Type 0} → (A → List ℕ) → List A → List ℕ
 list_text text [] = codes "-"
 list_text text (item ∷ items) = join_by text (codes ",") (item ∷ items)
 
+-- what a replica is
 abbrev pub role_text : Role → List ℕ
 role_text Primary = codes "primary"
 role_text Secondary = codes "secondary"
 
+-- how a replica is waited for
 abbrev pub mode_text : Mode → List ℕ
 mode_text Auto = codes "auto"
 mode_text Sync = codes "sync"

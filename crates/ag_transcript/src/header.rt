@@ -7,8 +7,10 @@ use crate::words::put_list;
 use ag_model::config::Config;
 use ag_model::value::NoMemory;
 
-/// Adds the first line of a transcript at the end of `out`, without its line end. The line is this
+/// Adds the first line of a transcript at the end of `out`, without its end. The line is this
 /// project's own.
+///
+/// An error leaves open what `out` has, which may be a part of the line.
 pub fn print_header(c: &Config, out: &mut Vec<u8>) -> Result<(), NoMemory>
     ensures { OnOk result (out.new.items ≡ out.old.items ++ header_text c.now) }
 {

@@ -4,5 +4,7 @@
 pub mod answer;
 pub mod header;
 mod refusal;
+#[cfg(test)]
+mod tests;
 mod text;
 mod words;

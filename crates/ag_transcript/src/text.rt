@@ -2,7 +2,7 @@
 ghost use Rattle.std.specs.Prelude.{◌≡◌, ◌++◌, ◌<◌, codes, false, OnOk};
 ghost use Rattle.std.specs.Fmt.{decimal, digit_glyph};
 ghost use Rattle.std.specs.List.{flat_map};
-ghost use Rattle.ag_transcript.specs.Words.{letter, hex_pair};
+ghost use Rattle.ag_transcript.specs.Words.{node_text, hex_pair};
 
 use ag_model::value::NoMemory;
 use std::io::Write;
@@ -27,7 +27,7 @@ pub(crate) fn put_number(n: u64, out: &mut Vec<u8>) -> Result<(), NoMemory>
 
 /// Adds the letter of a replica at the end.
 pub(crate) fn put_letter(node: u8, out: &mut Vec<u8>) -> Result<(), NoMemory>
-    ensures { OnOk result (out.new.items ≡ out.old.items ++ letter node) }
+    ensures { OnOk result (out.new.items ≡ out.old.items ++ node_text node) }
 {
     put_text(&[b'A'.wrapping_add(node)], out)
 }
@@ -55,7 +55,7 @@ pub(crate) fn put_two(
 
 /// Adds a word and the letter of a replica at the end.
 pub(crate) fn put_node(name: &[u8], node: u8, out: &mut Vec<u8>) -> Result<(), NoMemory>
-    ensures { OnOk result (out.new.items ≡ out.old.items ++ (name.now ++ letter node)) }
+    ensures { OnOk result (out.new.items ≡ out.old.items ++ (name.now ++ node_text node)) }
 {
     put_text(name, out)?;
     put_letter(node, out)
@@ -63,7 +63,7 @@ pub(crate) fn put_node(name: &[u8], node: u8, out: &mut Vec<u8>) -> Result<(), N
 
 /// Adds a word and the letters of two replicas at the end.
 pub(crate) fn put_nodes(name: &[u8], node: u8, other: u8, out: &mut Vec<u8>) -> Result<(), NoMemory>
-    ensures { OnOk result (out.new.items ≡ out.old.items ++ (name.now ++ letter node ++ codes " " ++ letter other)) }
+    ensures { OnOk result (out.new.items ≡ out.old.items ++ (name.now ++ node_text node ++ codes " " ++ node_text other)) }
 {
     put_node(name, node, out)?;
     put_node(b" ", other, out)

@@ -1,3 +1,4 @@
+-- What is written is what was there and the hex of the bytes so far.
 use Rattle.std.proofs.Common.{◌≡◌, ◌++◌, take}
 use Rattle.std.specs.List.{flat_map}
 use Rattle.ag_transcript.specs.Words.{hex_pair}

@@ -1,3 +1,4 @@
+-- What is written is what was there and the items so far, with a `,` before each.
 use Rattle.std.proofs.Common.{◌≡◌, ◌++◌, take, codes}
 use Rattle.std.specs.List.{flat_map}
 use Rattle.ag_transcript.proofs.words.put_list.Given as goal
