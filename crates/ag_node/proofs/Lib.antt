@@ -10,3 +10,5 @@ pub mod LogCopies
 pub mod LogMore
 pub mod NodeSteps
 pub mod Rising
+pub mod NodeSets
+pub mod OpeningSteps

@@ -26,7 +26,7 @@ use Rattle.ag_node.specs.Nodes.{IsNode, leading_of}
 use Rattle.ag_node.proofs.Quiet.{hardens_is, redoes_is, access_is_free, stands}
 
 -- the pages of a node are its flags
-pages_are : (leads : Bool) (log : Log) (at : ℕ) (ds : List Bool) (buffer : List Record) (txn synced : ℕ) (peers : List Peer) (r : Replica) (pages : ℕ)
+pub pages_are : (leads : Bool) (log : Log) (at : ℕ) (ds : List Bool) (buffer : List Record) (txn synced : ℕ) (peers : List Peer) (r : Replica) (pages : ℕ)
     → node_of leads log at ds (leading_of buffer txn synced peers) ≡ r → pages ≡ length r.pages → pages ≡ length ds
 pages_are leads log at ds buffer txn synced peers r pages is p = p ∙ ap (λ (x : Replica). length x.pages) (sym is) ∙ length-map ds page_of_flag
 

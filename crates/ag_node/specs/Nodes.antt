@@ -26,3 +26,7 @@ pub record IsNode (leads : Bool) (log : Log) (front : ℕ) (pages : ℕ) (buffer
 abbrev pub IsRefusedBy : Option Refusal → Check → Type 0
 IsRefusedBy None check = check.when ≡ false
 IsRefusedBy (Some why) check = (check.when ≡ true) × (why ≡ check.refusal)
+
+-- what a primary knows of a secondary at the opening
+abbrev pub at_opening : Peer
+at_opening = record { connected = true; next = 2; hardened = 1; low = 1 }

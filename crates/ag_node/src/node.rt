@@ -1,5 +1,5 @@
 //! One replica.
-ghost use Rattle.std.specs.Prelude.{List, ◌≡◌, ◌∷◌, [], IfOk, false, true};
+ghost use Rattle.std.specs.Prelude.{length, List, ◌≡◌, ◌∷◌, [], IfOk, false, true};
 ghost use Rattle.ag_model.specs.declared.record.Record.{Record};
 ghost use Rattle.ag_model.specs.Sizes.{records_size};
 ghost use Rattle.ag_rules.specs.Replica.{end, front, is_reverting};
@@ -12,7 +12,7 @@ mod following;
 mod leading;
 
 use crate::log::{HardenedLog, block_sectors_of};
-use crate::opening::{opening_peers, synced_at_opening};
+use crate::opening::{clean, known_at_opening, unused};
 use crate::peer::PeerState;
 use crate::site::Site;
 use ag_model::answer::{Answer, Refusal};
@@ -107,28 +107,23 @@ impl Node {
     }
 
     /// A replica at the opening: the primary, or one that follows it.
-    #[tactic(auto, unfolding(ag_rules::specs::Group::opening_replica))]
     pub fn opening(alloc: Global, config: &Config, leads: bool) -> Result<Node, NoMemory>
         requires { IsConfig config.now }
-        ensures { IfOk result (λ node. node ≡ opening_replica config.now leads) }
+        ensures node { IfOk result (λ node. node ≡ opening_replica config.now leads) }
+        ensures pages { IfOk result (λ node. length node.pages ≡ config.now.pages) }
     {
-        let modes = config.modes.as_slice();
-        let (synced, peers) = if leads {
-            (synced_at_opening(modes), opening_peers(alloc, modes)?)
-        } else {
-            (0, Vec::new(alloc))
-        };
+        let (synced, peers) = known_at_opening(alloc, config.modes.as_slice(), leads)?;
         Ok(Node {
             leads,
             log: HardenedLog::opening(alloc)?,
             front: 1,
-            dirty: vec![in alloc; false; usize::from(config.pages)]?,
+            dirty: clean(alloc, config.pages)?,
             buffer: ListOf::new(alloc),
             buffered: 0,
             last_txn: 0,
             synced,
             peers,
-            used: vec![in alloc; 0; usize::from(config.pages)]?,
+            used: unused(alloc, config.pages)?,
         })
     }
 }

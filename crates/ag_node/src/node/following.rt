@@ -31,6 +31,7 @@ impl Node {
         requires pages { site.now.pages ≡ length self.old.pages }
         ensures answer { result ≡ (redo_part (here_at site.now) self.old).answer }
         ensures after { self.new ≡ (redo_part (here_at site.now) self.old).after }
+        ensures pages { length self.new.pages ≡ length self.old.pages }
     {
         if self.leads() {
             return Answer::No(Refusal::NotSecondary { node: site.number });
@@ -45,6 +46,7 @@ impl Node {
         requires follows { self.old.leads ≡ false }
         ensures lsn { result ≡ end self.old }
         ensures after { self.new ≡ (redoes_touching pages self.old (touched_up_to pages (end self.old) self.old)).after }
+        ensures pages { length self.new.pages ≡ length self.old.pages }
     {
         let records = self.log.records();
         mark(self.dirty.as_mut_slice(), &records[self.front as usize..]);
@@ -113,7 +115,9 @@ impl Node {
         requires some { 0 < length block.now.records }
         ensures answer { IfOk result (λ x. x.0 ≡ (block_part (here_at site.now) from self.old full term block.now).answer) }
         ensures out { IfOk result (λ x. posting_of from x.1 ≡ (block_part (here_at site.now) from self.old full term block.now).out) }
+        ensures built { IfOk result (λ x. IfSome x.1 IsBuiltMessage) }
         ensures after { OnOk result (self.new ≡ (block_part (here_at site.now) from self.old full term block.now).after) }
+        ensures pages { OnOk result (length self.new.pages ≡ length self.old.pages) }
     {
         if self.leads() || term != TERM {
             return Ok((Answer::No(Refusal::Nothing), None));
@@ -156,7 +160,8 @@ impl Node {
     fn append_block(&mut self, new: &RecordList) -> Result<(), NoMemory>
         requires some { 0 < length new.now }
         requires follows { self.old.leads ≡ false }
-        ensures { OnOk result (self.new ≡ record self.old { kept = record self.old.kept { log = with_block self.old.kept.log new.now } }) }
+        ensures after { OnOk result (self.new ≡ record self.old { kept = record self.old.kept { log = with_block self.old.kept.log new.now } }) }
+        ensures pages { OnOk result (length self.new.pages ≡ length self.old.pages) }
     {
         let mut records = copy_of(new)?;
         self.log.append(&mut records)?;
@@ -165,7 +170,8 @@ impl Node {
 
     /// The Ack of a replica that has hardened up to an LSN.
     fn ack(&self, hardened: u64) -> Message
-        ensures { result ≡ ack_message self.now hardened }
+        ensures is { result ≡ ack_message self.now hardened }
+        ensures built { IsBuiltMessage result }
     {
         Message {
             term: TERM,

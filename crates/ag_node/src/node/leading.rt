@@ -1,9 +1,6 @@
 //! What the events of a primary do.
 ghost use Rattle.std.specs.Prelude.{◌≡◌, ◌+◌, ◌≤◌, ◌==◌, ◌∷◌, [], IfOk, OnOk, IfSome, length, false, true, MatchOption, nat_eq};
-ghost use Rattle.std.specs.List.{AllByRecursion};
-ghost use Rattle.ag_model.specs.declared.event.Pair.{Pair};
 ghost use Rattle.ag_rules.specs.Replica.{end, full_end, peer, with_peer};
-ghost use Rattle.ag_rules.specs.Plan.{Part};
 ghost use Rattle.ag_rules.specs.Promotion.{log_check, is_spent};
 ghost use Rattle.ag_rules.specs.SetEvent.{set_part, sets, pairs_pass, records_of_set};
 ghost use Rattle.ag_rules.specs.Redo.{due_pages};
@@ -12,7 +9,6 @@ ghost use Rattle.ag_rules.specs.SendEvent.{send_part, block_to_send, block_messa
 ghost use Rattle.ag_rules.specs.AckMessage.{ack_message_part, known_peer};
 ghost use Rattle.ag_rules.specs.Built.{IsBuiltMessage};
 ghost use Rattle.ag_node.specs.Out.{posting_of};
-ghost use Rattle.ag_node.specs.Room.{unless_some};
 ghost use Rattle.ag_node.specs.Sites.{here_at};
 ghost use Rattle.ag_node.specs.Nodes.{IsRefusedBy};
 
@@ -37,9 +33,9 @@ impl Node {
     pub fn set(&mut self, alloc: Global, site: &Site, pairs: &PairList) -> Result<Answer, NoMemory>
         requires pages { site.now.pages ≡ length self.old.pages }
         requires few { length pairs.now ≤ 8 }
-        requires values { AllByRecursion (λ (pair : Pair). pair.value.len ≤ 64) pairs.now }
         ensures answer { IfOk result (λ a. a ≡ (set_part (here_at site.now) self.old pairs.now).answer) }
         ensures after { OnOk result (self.new ≡ (set_part (here_at site.now) self.old pairs.now).after) }
+        ensures pages { OnOk result (length self.new.pages ≡ length self.old.pages) }
     {
         if !self.leads() {
             return Ok(not_primary(site));
@@ -47,10 +43,8 @@ impl Node {
         if self.is_spent() {
             return Ok(Answer::No(Refusal::Spent));
         }
-        if let Some(why) = self.full_page(site, pairs.as_slice()) {
-            return Ok(Answer::No(why));
-        }
-        Ok(self.set_pairs(alloc, site.pages, pairs.as_slice())?)
+        let answer = self.set_pairs(alloc, site, pairs.as_slice())?;
+        Ok(answer)
     }
 
     /// Whether no transaction can begin any more.
@@ -58,16 +52,6 @@ impl Node {
         ensures { result ≡ is_spent self.now.leading.last_txn }
     {
         self.last_txn >= 9_223_372_036_854_775_808
-    }
-
-    /// Why a pair has no room on its page, the first that has none.
-    fn full_page(&self, site: &Site, pairs: &[Pair]) -> Option<Refusal>
-        requires pages { site.now.pages ≡ length self.now.pages }
-        requires leads { self.now.leads ≡ true }
-        requires few { length pairs.now ≤ 8 }
-        ensures { (part : Part) → pairs_pass (here_at site.now) self.now (self.now.leading.last_txn + 1) [] pairs.now part ≡ unless_some result self.now part }
-    {
-        first_full(site.pages, self.used.as_slice(), pairs)
     }
 
     /// The LSN of the record so many after the buffer's last.
@@ -79,26 +63,31 @@ impl Node {
         Ok(lsn.ok_or(NoMemory)?)
     }
 
-    /// The transaction, where the buffer has room for it.
-    fn set_pairs(&mut self, alloc: Global, pages: u16, pairs: &[Pair]) -> Result<Answer, NoMemory>
-        requires pages { pages ≡ length self.old.pages }
+    /// The transaction, where each pair has room on its page and the buffer has room for all records.
+    fn set_pairs(&mut self, alloc: Global, site: &Site, pairs: &[Pair]) -> Result<Answer, NoMemory>
+        requires pages { site.now.pages ≡ length self.old.pages }
         requires leads { self.old.leads ≡ true }
         requires few { length pairs.now ≤ 8 }
-        ensures answer { IfOk result (λ a. a ≡ (sets self.old (records_of_set pages (self.old.leading.last_txn + 1) pairs.now)).answer) }
-        ensures after { OnOk result (self.new ≡ (sets self.old (records_of_set pages (self.old.leading.last_txn + 1) pairs.now)).after) }
+        ensures answer { IfOk result (λ a. a ≡ (pairs_pass (here_at site.now) self.old (self.old.leading.last_txn + 1) [] pairs.now (sets self.old (records_of_set site.now.pages (self.old.leading.last_txn + 1) pairs.now))).answer) }
+        ensures after { OnOk result (self.new ≡ (pairs_pass (here_at site.now) self.old (self.old.leading.last_txn + 1) [] pairs.now (sets self.old (records_of_set site.now.pages (self.old.leading.last_txn + 1) pairs.now))).after) }
+        ensures pages { OnOk result (length self.new.pages ≡ length self.old.pages) }
     {
+        if let Some(why) = first_full(site.pages, self.used.as_slice(), pairs) {
+            return Ok(Answer::No(why));
+        }
         let txn = self.last_txn.checked_add(1).ok_or(NoMemory)?;
-        let mut new = records_of_set(alloc, pages, txn, pairs)?;
+        let mut new = records_of_set(alloc, site.pages, txn, pairs)?;
         let need = records_size(new.as_slice())?;
         let free = BUFFER_BYTES.saturating_sub(self.buffered);
         if free < need {
             return Ok(Answer::No(Refusal::BufferFull { need, free }));
         }
+        let buffered = self.buffered.checked_add(need).ok_or(NoMemory)?;
         let lsn = self.lsn_after(new.len() as u64)?;
         self.buffer.append(&mut new)?;
-        self.buffered = self.buffered.checked_add(need).ok_or(NoMemory)?;
+        self.buffered = buffered;
         self.last_txn = txn;
-        spend(pages, self.used.as_mut_slice(), pairs);
+        spend(site.pages, self.used.as_mut_slice(), pairs);
         Ok(Answer::Lsn { lsn })
     }
 
@@ -108,6 +97,7 @@ impl Node {
         requires pages { site.now.pages ≡ length self.old.pages }
         ensures answer { IfOk result (λ a. a ≡ (harden_part (here_at site.now) self.old).answer) }
         ensures after { OnOk result (self.new ≡ (harden_part (here_at site.now) self.old).after) }
+        ensures pages { OnOk result (length self.new.pages ≡ length self.old.pages) }
     {
         if !self.leads() {
             return Ok(not_primary(site));
@@ -142,6 +132,7 @@ impl Node {
         requires some { (length self.old.leading.buffer == 0) ≡ false }
         ensures lsn { IfOk result (λ lsn. lsn ≡ full_end self.old) }
         ensures after { OnOk result (self.new ≡ (hardens pages self.old (due_pages pages (hardened_one pages self.old))).after) }
+        ensures pages { OnOk result (length self.new.pages ≡ length self.old.pages) }
     {
         mark(self.dirty.as_mut_slice(), self.buffer.as_slice());
         self.log.append(&mut self.buffer)?;
@@ -161,7 +152,9 @@ impl Node {
     ) -> Result<(Answer, Option<Message>), NoMemory>
         ensures answer { IfOk result (λ x. x.0 ≡ (send_part (here_at site.now) self.old m full).answer) }
         ensures out { IfOk result (λ x. posting_of m x.1 ≡ (send_part (here_at site.now) self.old m full).out) }
+        ensures built { IfOk result (λ x. IfSome x.1 IsBuiltMessage) }
         ensures after { OnOk result (self.new ≡ (send_part (here_at site.now) self.old m full).after) }
+        ensures pages { OnOk result (length self.new.pages ≡ length self.old.pages) }
     {
         if !self.leads() {
             return Ok((not_primary(site), None));
@@ -216,7 +209,9 @@ impl Node {
         requires first { first ≡ (peer self.old m).next }
         requires bounds { (1 ≤ first) × (first ≤ last) × (last ≤ end self.old) }
         ensures message { IfOk result (λ message. message ≡ block_message self.old (peer self.old m).next last) }
+        ensures built { IfOk result IsBuiltMessage }
         ensures after { OnOk result (self.new ≡ with_sent self.old m last) }
+        ensures pages { OnOk result (length self.new.pages ≡ length self.old.pages) }
     {
         let block = Block {
             first,
@@ -237,6 +232,7 @@ impl Node {
     pub fn acknowledge(&mut self, from: u8, term: u64, hardened: u64, low: u64) -> Answer
         ensures answer { result ≡ (ack_message_part from self.old term hardened low).answer }
         ensures after { self.new ≡ (ack_message_part from self.old term hardened low).after }
+        ensures pages { length self.new.pages ≡ length self.old.pages }
     {
         if !self.leads() || term != TERM || self.next_to_send(from).is_none() {
             return Answer::No(Refusal::Nothing);
@@ -250,6 +246,7 @@ impl Node {
         requires { (peer self.old from).connected ≡ true }
         ensures lsn { result ≡ (known_peer (peer self.old from) hardened low).hardened }
         ensures after { self.new ≡ with_peer self.old from (known_peer (peer self.old from) hardened low) }
+        ensures pages { length self.new.pages ≡ length self.old.pages }
     {
         let peer = &mut self.peers[usize::from(from)];
         peer.hardened = peer.hardened.max(hardened);

@@ -3,7 +3,7 @@ use Rattle.std.proofs.lemmas.List.{with_items_is}
 use Rattle.ag_model.specs.declared.record.Record.{Record}
 use Rattle.ag_node.specs.Marked.{marked}
 use Rattle.ag_node.proofs.NodeSteps.{node_redone, after_is}
-use Rattle.ag_node.proofs.node.following.Node.redo_all.Goals as goal
+use Rattle.ag_node.proofs.node.Node.redo_all.Goals as goal
 
 pub returns-clause-after : goal.returns-clause-after
 returns-clause-after c =

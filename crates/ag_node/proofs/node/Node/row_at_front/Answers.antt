@@ -4,7 +4,7 @@ use Rattle.ag_model.specs.Rows.{rows}
 use Rattle.ag_rules.specs.ReadEvent.{row_answer}
 use Rattle.ag_node.specs.Sites.{here_at}
 use Rattle.ag_node.proofs.NodeSteps.{read_too_old, read_row}
-use Rattle.ag_node.proofs.node.following.Node.row_at_front.Goals as goal
+use Rattle.ag_node.proofs.node.Node.row_at_front.Goals as goal
 
 pub returns-then-self-horizon : goal.returns-then-self-horizon
 returns-then-self-horizon c =
