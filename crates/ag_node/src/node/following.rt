@@ -117,7 +117,7 @@ impl Node {
         ensures out { IfOk result (λ x. posting_of from x.1 ≡ (block_part (here_at site.now) from self.old full term block.now).out) }
         ensures built { IfOk result (λ x. IfSome x.1 IsBuiltMessage) }
         ensures after { OnOk result (self.new ≡ (block_part (here_at site.now) from self.old full term block.now).after) }
-        ensures pages { OnOk result (length self.new.pages ≡ length self.old.pages) }
+        ensures pages { length self.new.pages ≡ length self.old.pages }
     {
         if self.leads() || term != TERM {
             return Ok((Answer::No(Refusal::Nothing), None));
@@ -161,7 +161,7 @@ impl Node {
         requires some { 0 < length new.now }
         requires follows { self.old.leads ≡ false }
         ensures after { OnOk result (self.new ≡ record self.old { kept = record self.old.kept { log = with_block self.old.kept.log new.now } }) }
-        ensures pages { OnOk result (length self.new.pages ≡ length self.old.pages) }
+        ensures pages { length self.new.pages ≡ length self.old.pages }
     {
         let mut records = copy_of(new)?;
         self.log.append(&mut records)?;

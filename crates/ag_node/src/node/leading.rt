@@ -35,7 +35,7 @@ impl Node {
         requires few { length pairs.now ≤ 8 }
         ensures answer { IfOk result (λ a. a ≡ (set_part (here_at site.now) self.old pairs.now).answer) }
         ensures after { OnOk result (self.new ≡ (set_part (here_at site.now) self.old pairs.now).after) }
-        ensures pages { OnOk result (length self.new.pages ≡ length self.old.pages) }
+        ensures pages { length self.new.pages ≡ length self.old.pages }
     {
         if !self.leads() {
             return Ok(not_primary(site));
@@ -70,7 +70,7 @@ impl Node {
         requires few { length pairs.now ≤ 8 }
         ensures answer { IfOk result (λ a. a ≡ (pairs_pass (here_at site.now) self.old (self.old.leading.last_txn + 1) [] pairs.now (sets self.old (records_of_set site.now.pages (self.old.leading.last_txn + 1) pairs.now))).answer) }
         ensures after { OnOk result (self.new ≡ (pairs_pass (here_at site.now) self.old (self.old.leading.last_txn + 1) [] pairs.now (sets self.old (records_of_set site.now.pages (self.old.leading.last_txn + 1) pairs.now))).after) }
-        ensures pages { OnOk result (length self.new.pages ≡ length self.old.pages) }
+        ensures pages { length self.new.pages ≡ length self.old.pages }
     {
         if let Some(why) = first_full(site.pages, self.used.as_slice(), pairs) {
             return Ok(Answer::No(why));
@@ -97,7 +97,7 @@ impl Node {
         requires pages { site.now.pages ≡ length self.old.pages }
         ensures answer { IfOk result (λ a. a ≡ (harden_part (here_at site.now) self.old).answer) }
         ensures after { OnOk result (self.new ≡ (harden_part (here_at site.now) self.old).after) }
-        ensures pages { OnOk result (length self.new.pages ≡ length self.old.pages) }
+        ensures pages { length self.new.pages ≡ length self.old.pages }
     {
         if !self.leads() {
             return Ok(not_primary(site));
@@ -132,7 +132,7 @@ impl Node {
         requires some { (length self.old.leading.buffer == 0) ≡ false }
         ensures lsn { IfOk result (λ lsn. lsn ≡ full_end self.old) }
         ensures after { OnOk result (self.new ≡ (hardens pages self.old (due_pages pages (hardened_one pages self.old))).after) }
-        ensures pages { OnOk result (length self.new.pages ≡ length self.old.pages) }
+        ensures pages { length self.new.pages ≡ length self.old.pages }
     {
         mark(self.dirty.as_mut_slice(), self.buffer.as_slice());
         self.log.append(&mut self.buffer)?;
@@ -154,7 +154,7 @@ impl Node {
         ensures out { IfOk result (λ x. posting_of m x.1 ≡ (send_part (here_at site.now) self.old m full).out) }
         ensures built { IfOk result (λ x. IfSome x.1 IsBuiltMessage) }
         ensures after { OnOk result (self.new ≡ (send_part (here_at site.now) self.old m full).after) }
-        ensures pages { OnOk result (length self.new.pages ≡ length self.old.pages) }
+        ensures pages { length self.new.pages ≡ length self.old.pages }
     {
         if !self.leads() {
             return Ok((not_primary(site), None));
@@ -211,7 +211,7 @@ impl Node {
         ensures message { IfOk result (λ message. message ≡ block_message self.old (peer self.old m).next last) }
         ensures built { IfOk result IsBuiltMessage }
         ensures after { OnOk result (self.new ≡ with_sent self.old m last) }
-        ensures pages { OnOk result (length self.new.pages ≡ length self.old.pages) }
+        ensures pages { length self.new.pages ≡ length self.old.pages }
     {
         let block = Block {
             first,
