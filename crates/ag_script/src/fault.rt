@@ -11,6 +11,7 @@ pub enum ScriptFault {
     BadLine { line: u32 },
     /// There are more event lines than a scenario may have.
     Events,
+    /// Memory was refused.
     NoMemory,
 }
 

@@ -110,8 +110,5 @@ fn read_line(alloc: Global, c: &Config, line: &[u8]) -> Result<Line, AllocError>
 fn is_skipped(line: &[u8]) -> bool
     ensures { IsTrue result ↔ IsSkipped line.now }
 {
-    match line {
-        [] | [b'#', ..] => true,
-        _ => false,
-    }
+    matches!(line, [] | [b'#', ..])
 }

@@ -3,7 +3,7 @@ ghost use Rattle.std.specs.Prelude.{◌≡◌, ◌≢◌, ◌≤◌, ◌<◌, le
 ghost use Rattle.std.specs.Option.{SomeIff};
 ghost use Rattle.std.specs.Str.Parse.{digits_value};
 ghost use Rattle.ag_script.specs.Hex.{hex_at};
-ghost use Rattle.ag_script.specs.ReadWord.{IsDigits, who_at, is_same, number_at, mask_at, value_at};
+ghost use Rattle.ag_script.specs.ReadWord.{IsDigits, who_at, number_at, mask_at, value_at};
 
 use ag_model::config::Config;
 use ag_model::event::Who;
@@ -17,17 +17,6 @@ pub(crate) fn who_of(word: &[u8], c: &Config) -> Option<Who>
         [b'@'] => Some(Who::Primary),
         [b] if *b >= b'A' && usize::from(*b - b'A') < c.modes.len() => Some(Who::Letter(*b - b'A')),
         _ => None,
-    }
-}
-
-/// Whether two words name replicas by the same letter.
-pub(crate) fn is_same(a: &Who, b: &Who) -> bool
-    ensures { result ≡ is_same a.now b.now }
-{
-    match (a, b) {
-        (Who::Letter(n), Who::Letter(m)) => n == m,
-        (Who::Primary, Who::Primary) => true,
-        _ => false,
     }
 }
 

@@ -5,7 +5,7 @@ ghost use Rattle.ag_script.specs.ReadWord.{who_at, other_at, number_at, value_at
 ghost use Rattle.ag_script.specs.ReadWords.{Reads, word_by, key_by, suffix_at, stop_at, fail_at};
 
 use crate::find::find;
-use crate::word::{is_same, mask_of, number_of, value_of, who_of};
+use crate::word::{mask_of, number_of, value_of, who_of};
 use ag_model::config::Config;
 use ag_model::event::{Suffix, Who};
 use ag_model::value::Value;
@@ -67,11 +67,7 @@ impl<'a> Words<'a> {
     {
         let word = self.word()?;
         let who = who_of(word, c)?;
-        if is_same(&who, first) {
-            None
-        } else {
-            Some(who)
-        }
+        if who == *first { None } else { Some(who) }
     }
 
     /// A number from low to high.
