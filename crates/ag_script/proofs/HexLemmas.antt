@@ -2,7 +2,7 @@
 use Rattle.std.proofs.Common.{◌≡◌, ℕ, suc, ◌+◌, ◌-◌, ◌*◌, ◌%◌, ◌<◌, ◌≤◌, ◌^◌, List, [], ◌∷◌, ◌++◌, length, get_or, set, drop, Bool, true, false, cond, ltb, leb, ◌&&◌, Option, Some, None, refl, sym, ap, subst, ◌∙◌, arith, inl, inr, ◌⊎◌, append_assoc, add-one}
 use Rattle.std.proofs.Math.Nat.{pow-le-pow_right, pow-succ'}
 use Rattle.std.proofs.Math.Seq.{set-append_seam}
-use Rattle.std.proofs.lemmas.List.{append-nil, length-append}
+use Rattle.std.proofs.lemmas.List.{length-append}
 use Rattle.std.proofs.lemmas.Bool.{lt-leb}
 use Rattle.std.specs.Prelude.{replicate, codes}
 use Rattle.std.specs.Str.{bytes_eq}
@@ -51,25 +51,10 @@ Filled-more word more bytes a b len x y h hx hy few =
       left = omega (arith, h.left);
     }
 
-pub Filled-first : (word more bytes : List ℕ) (a b len : ℕ) → Filled word (a ∷ b ∷ more) bytes len → hex_at a ≡ None → bytes_at word ≡ None
-Filled-first word more bytes a b len h e = sym h.read ∙ (let g : with_front h.done (bytes_at (a ∷ b ∷ more)) ≡ None = rw e refl in g)
-
-pub Filled-second : (word more bytes : List ℕ) (a b len x : ℕ) → Filled word (a ∷ b ∷ more) bytes len → hex_at a ≡ Some x → hex_at b ≡ None → bytes_at word ≡ None
-Filled-second word more bytes a b len x h ex e = sym h.read ∙ (let g : with_front h.done (bytes_at (a ∷ b ∷ more)) ≡ None = rw (ex, e) refl in g)
-
 pub Filled-next : (word rest after bytes : List ℕ) (len x y : ℕ) → Filled word rest bytes len → 2 ≤ length rest → after ≡ drop 2 rest → hex_at (get_or rest 0 0) ≡ Some x → hex_at (get_or rest 1 0) ≡ Some y → len < 64 → Filled word after (set bytes len (16 * x + y)) (len + 1)
 Filled-next word [] after bytes len x y h long is hx hy few = absurd (omega arith)
 Filled-next word (a ∷ []) after bytes len x y h long is hx hy few = absurd (omega arith)
 Filled-next word (a ∷ b ∷ more) after bytes len x y h long is hx hy few = rw is (Filled-more word more bytes a b len x y h hx hy few)
-
-pub Filled-none : (word rest bytes : List ℕ) (len x : ℕ) → Filled word rest bytes len → 2 ≤ length rest → ((hex_at (get_or rest 0 0) ≡ None) ⊎ ((hex_at (get_or rest 0 0) ≡ Some x) × (hex_at (get_or rest 1 0) ≡ None))) → bytes_at word ≡ None
-Filled-none word [] bytes len x h long e = absurd (omega arith)
-Filled-none word (a ∷ []) bytes len x h long e = absurd (omega arith)
-Filled-none word (a ∷ b ∷ more) bytes len x h long (inl e) = Filled-first word more bytes a b len h e
-Filled-none word (a ∷ b ∷ more) bytes len x h long (inr e) = Filled-second word more bytes a b len x h e.0 e.1
-
-pub Filled-end : (word bytes : List ℕ) (len : ℕ) → Filled word [] bytes len → (bs : List ℕ) × (bytes_at word ≡ Some bs) × (length bs ≡ len) × (bytes ≡ bs ++ replicate (64 - len) 0)
-Filled-end word bytes len h = (h.done, sym h.read ∙ ap Some (append-nil h.done), sym h.len_is, h.bytes_are)
 
 -- ---- values
 
@@ -91,9 +76,6 @@ bytes_len (a ∷ b ∷ more) bs e =
       ]
     ]
 
-both_true : (n : ℕ) → 0 < n → n ≤ 64 → ltb 0 n && leb n 64 ≡ true
-both_true n some few = grind arith
-
 and_false : (b : Bool) → b && false ≡ false
 and_false true = refl
 and_false false = refl
@@ -101,13 +83,8 @@ and_false false = refl
 too_many : (n : ℕ) → 64 < n → ltb 0 n && leb n 64 ≡ false
 too_many n many = rw (lt-leb n 64 many) (and_false (ltb 0 n))
 
-pub value_none : (w : List ℕ) → bytes_eq w (codes "-") ≡ false → bytes_at w ≡ None → value_at w ≡ None
+value_none : (w : List ℕ) → bytes_eq w (codes "-") ≡ false → bytes_at w ≡ None → value_at w ≡ None
 value_none w differs e = rw (differs, e) refl
-
-pub value_some : (w bs : List ℕ) → bytes_eq w (codes "-") ≡ false → bytes_at w ≡ Some bs → 0 < length bs → length bs ≤ 64 → value_at w ≡ Some (padded_value bs)
-value_some w bs differs e some few =
-    let one : ltb 0 (length bs) && leb (length bs) 64 ≡ true = both_true (length bs) some few in
-    rw (differs, e) (ap (λ (b : Bool). cond b (Some (padded_value bs)) None) one)
 
 pub value_wrong_len : (w : List ℕ) → bytes_eq w (codes "-") ≡ false → ((128 < length w) ⊎ (length w % 2 ≡ 1)) → value_at w ≡ None
 value_wrong_len w differs wrong =

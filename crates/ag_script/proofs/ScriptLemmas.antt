@@ -7,7 +7,7 @@ use Rattle.ag_model.specs.declared.config.Config.{Config}
 use Rattle.ag_model.specs.declared.event.Event.{Event}
 use Rattle.ag_rules.specs.Built.{IsBuilt, most_events}
 use Rattle.ag_script.specs.Named.{event_at}
-use Rattle.ag_script.specs.Lines.{words, IsLine, IsSkipped, IsBad, AreLines, parts, IsScriptText, IsFirstBad, IsTooMany}
+use Rattle.ag_script.specs.Lines.{words, IsLine, IsSkipped, IsBad, AreLines, parts, IsFirstBad, IsTooMany}
 use Rattle.ag_script.specs.declared.script.Line.{Line}
 use Rattle.ag_script.specs.LineKinds.{IsOfKind}
 use Rattle.ag_script.proofs.LineTakes.{line_takes}
@@ -32,9 +32,6 @@ pub record SoFar (c : Config) (text rest : List ℕ) (before : ℕ) (events : Li
   pub say : AreLines c lines events
   pub few : length events ≤ most_events
 
-pub SoFar-start : (c : Config) (text : List ℕ) → SoFar c text text 0 []
-SoFar-start c text = record { lines = []; cut = refl; place = refl; say = refl; few = omega arith }
-
 -- the next line
 one_cut : (text rest : List ℕ) (end : ℕ) (lines : List (List ℕ)) → parts text ≡ lines ++ parts rest → position (λ b. eqb b 10) rest ≡ Some end → parts text ≡ (lines ++ take end rest ∷ []) ++ parts (drop (end + 1) rest)
 one_cut text rest end lines cut at = cut ∙ ap (λ (ps : List (List ℕ)). lines ++ ps) (cut_some (λ b. eqb b 10) rest end at).1 ∙ sym (append_assoc lines (take end rest ∷ []) (parts (drop (end + 1) rest)))
@@ -56,9 +53,6 @@ SoFar-event c text rest after before es end e h at says room is = rw is (record 
   say = AreLines-event c h.lines (take end rest) es e h.say says;
   few = omega (arith, room, length-append es (e ∷ []));
 })
-
-pub SoFar-end : (c : Config) (text : List ℕ) (before : ℕ) (es : List Event) → SoFar c text [] before es → IsScriptText c text es
-SoFar-end c text before es h = record { lines = h.lines; whole = h.cut; say = h.say; few = h.few }
 
 some_onto : (b : ℕ) (ps : List (List ℕ)) → onto_first b ps ≢ []
 some_onto b [] e = cc
