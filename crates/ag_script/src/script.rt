@@ -25,7 +25,8 @@ pub(crate) enum Line {
     Bad,
 }
 
-/// The events of a script, whose first line has this number. A bad line is told by its number.
+/// The events of a script. Its first line has the number `first_line`. An error is the first bad line, an event line too many
+/// before any bad line, or want of memory.
 pub fn read_events(
     alloc: Global,
     text: &[u8],
