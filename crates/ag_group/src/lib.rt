@@ -3,3 +3,4 @@
 
 pub mod group;
 mod links;
+mod opening;
