@@ -1,7 +1,7 @@
 -- Cutting up, sector by sector.
-use Rattle.std.proofs.Common.{◌≡◌, ℕ, zero, suc, ◌+◌, ◌-◌, ◌<◌, ◌≤◌, List, [], ◌∷◌, ◌++◌, length, take, drop, replicate, min, refl, sym, ap, ◌∙◌, arith, append_assoc, take_all, add-one, inl, inr}
+use Rattle.std.proofs.Common.{◌≡◌, ℕ, suc, ◌+◌, ◌-◌, ◌<◌, ◌≤◌, List, [], ◌∷◌, ◌++◌, length, take, drop, replicate, min, refl, sym, ap, ◌∙◌, arith, append_assoc, take_all, add-one, inl, inr}
 use borrow.Rule.Slice.PartMut.{put_mid}
-use Rattle.std.proofs.lemmas.List.{take_at, drop_at, drop-replicate, length-replicate, append-nil, drop_all}
+use Rattle.std.proofs.lemmas.List.{take_at, drop_at, drop-replicate, append-nil, drop_all}
 use Rattle.std.proofs.lemmas.Bool.{cases_lt}
 use Rattle.ag_logblock.specs.declared.Head.{Head}
 use Rattle.ag_logblock.specs.Block.{sector, sectors_from}

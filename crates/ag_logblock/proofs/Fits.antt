@@ -1,19 +1,15 @@
 -- Sectors that fit are one block, and the sectors of a block fit.
-use Rattle.std.proofs.Common.{◌≡◌, ℕ, zero, suc, ◌+◌, ◌-◌, ◌*◌, ◌/◌, ◌^◌, ◌<◌, ◌≤◌, Bool, true, false, cond, eqb, ltb, leb, ◌&&◌, List, [], ◌∷◌, ◌++◌, length, get_or, take, drop, replicate, Result, Ok, Err, refl, sym, ap, subst, ◌∙◌, append_assoc, arith, inl, inr, drop-cons, take_all}
-use Rattle.std.specs.List.{All, AllByRecursion, list_all, flat_map}
-use Rattle.std.specs.Int.{Width, w16, w64, byte_len, to_be_bytes, from_be_bytes}
-use Rattle.std.proofs.lemmas.Bool.{and_parts, and_from, eqb-true, leb-true, le-leb, ltb-true, lt-ltb, cases_lt}
+use Rattle.std.proofs.Common.{◌≡◌, ℕ, zero, suc, ◌+◌, ◌-◌, ◌<◌, ◌≤◌, true, eqb, ltb, leb, ◌&&◌, List, [], ◌∷◌, ◌++◌, length, get_or, drop, replicate, refl, sym, ap, ◌∙◌, arith, drop-cons}
+use Rattle.std.specs.List.{list_all}
+use Rattle.std.specs.Int.{w16, w64, to_be_bytes}
+use Rattle.std.proofs.lemmas.Bool.{and_parts, eqb-true, leb-true, le-leb, ltb-true, lt-ltb}
 use Rattle.std.proofs.lemmas.Bool.Decides.{nat_tests}
-use Rattle.std.proofs.lemmas.List.{take_at, drop_at, take-append-drop, length-append, length-take, length-drop, length-replicate, append-nil, drop-drop, nil_from_length}
-use Rattle.std.proofs.lemmas.List.Concat.{flat_map-cons}
-use Rattle.ag_model.specs.Bytes.{AreBytes}
-use Rattle.ag_model.proofs.Numbers.{AreBytes-drop, front_number-read, front_number-lt, from_be_bytes-to_be_bytes}
+use Rattle.std.proofs.lemmas.List.{take-append-drop, length-take, length-drop, drop-drop}
+use Rattle.ag_model.proofs.Numbers.{AreBytes-drop, front_number-read}
 use Rattle.ag_logblock.specs.declared.Head.{Head}
 use Rattle.ag_logblock.specs.declared.Header.{Header}
-use Rattle.ag_logblock.specs.declared.BlockFault.{BlockFault}
-use Rattle.ag_logblock.specs.declared.BlockFault.TheVariants.{NoBlock, NoMemory}
-use Rattle.ag_logblock.specs.Block.{sector, sectors_from, sectors_for, block, HasBlock}
-use Rattle.ag_logblock.specs.Fitting.{IsSector, number, header_of, part_of, payload_of, agrees, is_used, header_fits, fits, misfit, first_misfit, is_whole, head_of}
+use Rattle.ag_logblock.specs.Block.{sector}
+use Rattle.ag_logblock.specs.Fitting.{IsSector, header_of, part_of, agrees, is_used, header_fits, fits}
 
 -- what a header that fits has
 pub record HeaderFits (first : Header) (i : ℕ) (h : Header) : Type 0 where

@@ -1,6 +1,6 @@
 -- The steps of the loops over sectors.
-use Rattle.std.proofs.Common.{◌≡◌, ℕ, suc, ◌+◌, ◌-◌, ◌<◌, ◌≤◌, Bool, true, false, List, [], ◌∷◌, ◌++◌, length, get_or, take, drop, eqb, ◌&&◌, refl, sym, ap, subst, ◌∙◌, append_assoc, arith, drop-cons, add-one, take_all}
-use Rattle.std.specs.List.{All, list_all, flat_map}
+use Rattle.std.proofs.Common.{◌≡◌, ℕ, ◌+◌, ◌-◌, ◌<◌, ◌≤◌, Bool, true, false, List, [], ◌∷◌, ◌++◌, length, get_or, take, drop, eqb, ◌&&◌, refl, sym, ap, subst, ◌∙◌, append_assoc, arith, drop-cons, add-one, take_all}
+use Rattle.std.specs.List.{All, list_all}
 use Rattle.std.proofs.lemmas.Bool.{and_parts}
 use Rattle.std.proofs.lemmas.List.{length-drop, drop_all, take_more, append-nil}
 use Rattle.std.proofs.lemmas.List.Concat.{flat_map-append, flat_map-cons}

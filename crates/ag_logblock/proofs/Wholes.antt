@@ -1,8 +1,8 @@
 -- Sectors that fit, and are as many as the count, are one block; and the sectors of a block fit.
-use Rattle.std.proofs.Common.{◌≡◌, ℕ, zero, suc, ◌+◌, ◌-◌, ◌*◌, ◌/◌, ◌^◌, ◌<◌, ◌≤◌, Bool, true, false, cond, eqb, ◌&&◌, List, [], ◌∷◌, ◌++◌, length, get_or, take, drop, replicate, Result, Ok, Err, refl, sym, ap, subst, ◌∙◌, append_assoc, arith, inl, inr, take_all}
+use Rattle.std.proofs.Common.{◌≡◌, ℕ, zero, suc, ◌+◌, ◌-◌, ◌*◌, ◌^◌, ◌<◌, ◌≤◌, Bool, true, false, cond, eqb, List, [], ◌∷◌, ◌++◌, length, get_or, take, drop, replicate, Result, Ok, Err, refl, sym, ap, subst, ◌∙◌, arith, inl, inr, take_all}
 use Rattle.std.specs.Prelude.{IfOk, OnOk}
-use Rattle.std.specs.List.{All, AllByRecursion, list_all, flat_map}
-use Rattle.std.specs.Int.{w16, w64, byte_len, to_be_bytes, from_be_bytes}
+use Rattle.std.specs.List.{All, AllByRecursion, list_all}
+use Rattle.std.specs.Int.{w16, w64, to_be_bytes, from_be_bytes}
 use Rattle.std.proofs.lemmas.Bool.{and_parts, and_from, eqb-true, cases_lt}
 use Rattle.std.proofs.lemmas.List.{take_at, drop_at, take-append-drop, length-append, length-take, length-drop, append-nil, drop-drop, drop_all, nil_from_length}
 use Rattle.std.proofs.lemmas.List.Concat.{flat_map-cons}
@@ -11,10 +11,10 @@ use Rattle.ag_model.proofs.Numbers.{AreBytes-drop, front_number-lt, from_be_byte
 use Rattle.ag_logblock.specs.declared.Head.{Head}
 use Rattle.ag_logblock.specs.declared.Header.{Header}
 use Rattle.ag_logblock.specs.declared.BlockFault.{BlockFault}
-use Rattle.ag_logblock.specs.declared.BlockFault.TheVariants.{NoBlock, NoMemory}
+use Rattle.ag_logblock.specs.declared.BlockFault.TheVariants.{NoBlock}
 use Rattle.ag_logblock.specs.Block.{sector, sectors_from, sectors_for, block, HasBlock}
-use Rattle.ag_logblock.specs.Fitting.{IsSector, number, header_of, part_of, payload_of, header_fits, fits, misfit, first_misfit, is_whole, head_of, Answers}
-use Rattle.ag_logblock.proofs.Fits.{HeaderFits, SectorFits, header_fit, sector_facts, used_most, used_full, is_used-is, are_zeros, eqb-refl}
+use Rattle.ag_logblock.specs.Fitting.{IsSector, header_of, part_of, payload_of, header_fits, fits, misfit, first_misfit, is_whole, head_of, Answers}
+use Rattle.ag_logblock.proofs.Fits.{header_fit, sector_facts, used_most, used_full, is_used-is, are_zeros, eqb-refl}
 
 -- ---- sectors that fit
 

@@ -1,5 +1,4 @@
-use Rattle.std.proofs.Common.{◌≡◌, ℕ, take, drop, ap, sym, ◌∙◌, arith, ◌++◌}
-use Rattle.std.proofs.lemmas.List.{append-nil}
+use Rattle.std.proofs.Common.{ℕ, take, drop, ap, ◌∙◌, arith}
 use Rattle.ag_logblock.proofs.Cuts.{cut_one, cut_all}
 use Rattle.ag_logblock.proofs.cutting.cut_up.Goals as goal
 

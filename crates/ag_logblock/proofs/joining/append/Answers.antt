@@ -1,6 +1,6 @@
-use Rattle.std.proofs.Common.{◌≡◌, ◌≤◌, ◌+◌, ◌-◌, ℕ, List, [], take, drop, length, get_or, ap, ◌∙◌, arith}
+use Rattle.std.proofs.Common.{◌≡◌, ◌≤◌, ◌+◌, ◌-◌, ℕ, [], take, drop, get_or, ap, ◌∙◌, arith}
 use Rattle.std.proofs.lemmas.List.{length-take}
-use Rattle.ag_logblock.specs.Fitting.{header_of, part_of}
+use Rattle.ag_logblock.specs.Fitting.{header_of}
 use Rattle.ag_logblock.specs.declared.Header.{Header}
 use Rattle.ag_logblock.proofs.Steps.{part_more}
 use Rattle.ag_logblock.proofs.joining.append.Goals as goal

@@ -1,4 +1,4 @@
-use Rattle.std.proofs.Common.{◌≡◌, ap, ◌∙◌, eqb}
+use Rattle.std.proofs.Common.{ap, ◌∙◌, eqb}
 use Rattle.std.specs.List.{list_all}
 use Rattle.ag_logblock.proofs.Steps.{fits-is, tail-is}
 use Rattle.ag_logblock.proofs.joining.fits.Goals as goal

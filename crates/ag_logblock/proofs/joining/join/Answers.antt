@@ -1,4 +1,4 @@
-use Rattle.std.proofs.Common.{◌≡◌, ◌∙◌, arith}
+use Rattle.std.proofs.Common.{◌∙◌}
 use Rattle.ag_logblock.proofs.Wholes.{joins, all_used, misfit_all}
 use Rattle.ag_logblock.proofs.joining.join.Goals as goal
 

@@ -1,7 +1,6 @@
-use Rattle.std.proofs.Common.{◌≡◌, sym, ap, ◌∙◌, arith, length, []}
-use Rattle.std.specs.List.{All}
+use Rattle.std.proofs.Common.{◌≡◌, sym, ◌∙◌, arith, length, []}
 use Rattle.std.proofs.lemmas.List.Elements.{All-more}
-use Rattle.ag_logblock.specs.Fitting.{IsSector, fits}
+use Rattle.ag_logblock.specs.Fitting.{IsSector}
 use Rattle.ag_logblock.proofs.Steps.{misfit_here, misfit_there, misfit_done, fits_below, all_sectors}
 use Rattle.ag_logblock.proofs.joining.misfit.Goals as goal
 
