@@ -5,6 +5,7 @@ use Rattle.ag_model.specs.declared.answer.Answer.{Answer}
 use Rattle.ag_rules.specs.Group.{Group, replica, with_replica, link}
 use Rattle.ag_rules.specs.Plan.{Part, here}
 use Rattle.ag_rules.specs.DeliverEvent.{message_part}
+use Rattle.ag_rules.specs.Built.{IsBuiltMessage}
 use Rattle.ag_node.specs.Out.{posting_of}
 
 -- the node did this part, of which these are the answer and the reply
@@ -17,4 +18,4 @@ pub record IsDone (old new : Group) (n m : ℕ) (part : Part) (answer : Answer) 
 abbrev pub IsArrival : Group → Group → ℕ → ℕ → ℕ → Bool → Option (Answer × Option Message) → Type 0
 IsArrival old new n m number full None = (slice_get (link old n m) (number - 1) ≡ None) × (new ≡ old)
 IsArrival old new n m number full (Some told) =
-    (message : Message) × (slice_get (link old n m) (number - 1) ≡ Some message) × IsDone old new n m (message_part (here old m) n (replica old m) full message) told.0 told.1
+    (message : Message) × (slice_get (link old n m) (number - 1) ≡ Some message) × IsBuiltMessage message × IsDone old new n m (message_part (here old m) n (replica old m) full message) told.0 told.1

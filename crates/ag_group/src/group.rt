@@ -1,5 +1,5 @@
 //! The group.
-ghost use Rattle.std.specs.Prelude.{◌≡◌, ◌<◌, ◌≤◌, IfOk, OnOk, IfSome, length, get_or, set, false, [], nat_le, ◌++◌, ◌∷◌};
+ghost use Rattle.std.specs.Prelude.{◌≡◌, ◌<◌, ◌≤◌, IfOk, OnOk, IfSome, length, get_or, set, true, false, [], nat_le, ◌++◌, ◌∷◌};
 ghost use Rattle.ag_rules.specs.Group.{opening, replica, with_replica, is_full};
 ghost use Rattle.ag_rules.specs.Plan.{here, at_node, posted};
 ghost use Rattle.ag_rules.specs.SetEvent.{set_part};
@@ -13,7 +13,9 @@ ghost use Rattle.ag_rules.specs.Checks.{token_or_none};
 ghost use Rattle.ag_rules.specs.Script.{IsConfig, IsEvent, IsWho};
 ghost use Rattle.ag_rules.specs.Built.{IsBuilt, IsBuiltMessage};
 ghost use Rattle.ag_rules.specs.Allowed.{IsAllowed, next};
+ghost use Rattle.ag_model.specs.declared.answer.Refusal.{Refusal};
 ghost use Rattle.ag_group.specs.Arrivals.{IsArrival};
+ghost use Rattle.ag_group.specs.Refusals.{IsLeft, leaves_message};
 ghost use Rattle.ag_node.specs.Out.{posting_of};
 ghost use Rattle.ag_node.specs.Sites.{here_at};
 
@@ -82,6 +84,8 @@ impl Group {
         requires event { IsEvent self.old.config event.now }
         ensures allowed { IfOk result (IsAllowed self.old event.now) }
         ensures next { OnOk result (self.new ≡ next self.old event.now) }
+        // A refused event leaves the group, but for the named refusals.
+        ensures refused { IfOk result (λ a. IsLeft event.now a → self.new ≡ self.old) }
         ensures config { OnOk result (self.new.config ≡ self.old.config) }
     {
         match event {
@@ -91,11 +95,13 @@ impl Group {
                 suffix: _,
             } => {
                 let n = self.named(node);
-                self.set(alloc, n, pairs)
+                let answer = self.set(alloc, n, pairs)?;
+                Ok(answer)
             }
             Event::Harden { node, suffix: _ } => {
                 let n = self.named(node);
-                self.harden(n)
+                let answer = self.harden(n)?;
+                Ok(answer)
             }
             Event::Send {
                 node,
@@ -103,7 +109,8 @@ impl Group {
                 suffix: _,
             } => {
                 let (n, m) = (self.named(node), self.named(to));
-                self.send(alloc, n, m)
+                let answer = self.send(alloc, n, m)?;
+                Ok(answer)
             }
             Event::Deliver {
                 node,
@@ -112,11 +119,13 @@ impl Group {
                 suffix: _,
             } => {
                 let (n, m) = (self.named(node), self.named(to));
-                self.deliver(n, m, *number)
+                let answer = self.deliver(n, m, *number)?;
+                Ok(answer)
             }
             Event::Redo { node, suffix: _ } => {
                 let n = self.named(node);
-                Ok(self.redo(n))
+                let answer = self.redo(n);
+                Ok(answer)
             }
             Event::Read {
                 node,
@@ -125,7 +134,8 @@ impl Group {
                 suffix: _,
             } => {
                 let n = self.named(node);
-                Ok(self.read(n, *session, *key))
+                let answer = self.read(n, *session, *key);
+                Ok(answer)
             }
             _ => unreachable!(),
         }
@@ -287,6 +297,7 @@ impl Group {
         requires number { 1 ≤ number }
         ensures answer { IfOk result (λ a. a ≡ (apart self.old n m (plan_of_deliver self.old n m number false)).answer) }
         ensures after { OnOk result (self.new ≡ (apart self.old n m (plan_of_deliver self.old n m number false)).after) }
+        ensures refused { IfOk result (λ a. (why : Refusal) → a ≡ Answer.No why → leaves_message why ≡ true → self.new ≡ self.old) }
         ensures config { OnOk result (self.new.config ≡ self.old.config) }
     {
         if n == m {

@@ -20,6 +20,7 @@ returns-clause-part c =
     let free = message_free c.args.n c.args.full message c.in-Some.ensures.built in (
       message,
       sym (ap (λ (x : List Message). slice_get x (c.args.number - 1)) link_is) ∙ c.in-Some.ensures.found,
+      c.in-Some.ensures.built,
       record {
         answered = told (λ h r. message_part h c.args.n r c.args.full message) free g c.args.self.now c.args.m c.from-2.result c.site-site.result c.index_mut-node.result.now c.in_ok-told.told.0 within
             c.site-site.ensures.number (c.site-site.ensures.pages ∙ ap (λ (g : Group). g.config.pages) (sym c.self.view_is)) (c.site-site.ensures.store ∙ ap (λ (g : Group). g.register) (sym c.self.view_is)) c.from-2.ensures c.index_mut-node.ensures.value c.in_ok-told.ensures.answer c.self.view_is;
