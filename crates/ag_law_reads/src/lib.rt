@@ -11,5 +11,4 @@ ghost use Rattle.ag_rules.specs.ReadsRight.{ReadsRight};
 /// Each answered read of a run is the row after a prefix of the log of its term.
 pub fn reads_right()
     ensures reads { (c : Config) (es : List Event) → 0 < length c.modes → IsScript c es → ReadsRight (run c es) }
-{
-}
+{}

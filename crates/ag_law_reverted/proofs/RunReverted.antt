@@ -1,6 +1,5 @@
 -- In each run a replica that finishes reverting equals one restored from its primary's log.
-use Rattle.std.proofs.Common.{◌≡◌, ◌≢◌, ℕ, ◌+◌, ◌-◌, ◌%◌, ◌<◌, ◌≤◌, List, [], ◌∷◌, ◌++◌, length, take, get_or, Bool, refl, sym, ap, ◌∙◌, subst, arith, get_or-set_same}
-use Rattle.std.specs.Prelude.{◌==◌}
+use Rattle.std.proofs.Common.{◌≡◌, ℕ, ◌%◌, ◌<◌, ◌≤◌, List, [], ◌∷◌, length, take, get_or, Bool, refl, sym, ap, ◌∙◌, subst, arith, get_or-set_same}
 use Rattle.std.specs.List.{AllByRecursion}
 use Rattle.std.proofs.lemmas.List.{take_all, get_or-replicate}
 use Rattle.ag_model.specs.declared.config.Config.{Config}
@@ -45,8 +44,12 @@ record IsBack (logs : Logs) (now : ℕ) (b : Return) : Type 0 where
 
 back_more : (a b : Logs) (low high : ℕ) → ((t : ℕ) → t ≤ low → IsPrefixOf (a t) (b t)) → low ≤ high → (x : Return) → IsBack a low x → IsBack b high x
 back_more a b low high more h x p = record {
-  past = omega (arith, p.past); prefix = prefix_trans (records x.replica) (a x.replica.term) (b x.replica.term) p.prefix (more x.replica.term p.past);
-  long = p.long; foreign = p.foreign; stripes = p.stripes }
+  past = omega (arith, p.past);
+  prefix = prefix_trans (records x.replica) (a x.replica.term) (b x.replica.term) p.prefix (more x.replica.term p.past);
+  long = p.long;
+  foreign = p.foreign;
+  stripes = p.stripes;
+}
 
 -- the disk after the writes of finish
 record FinishedDisk (r : Replica) (k : Kept) : Type 0 where
@@ -56,22 +59,25 @@ record FinishedDisk (r : Replica) (k : Kept) : Type 0 where
 finished_disk : (r : Replica) (touched : List ℕ) → FinishedDisk r (all_written r.kept (each_synced (finish_writes r touched)))
 finished_disk r touched =
     small_then_all (FinishedDisk r) r.kept (notes_of r touched) (Master_write (finished_master r) (end r) ∷ []) (notes_are_small r touched)
-      (λ k2 c. record { records = ap (λ (l : Log). take (end r) l.records) (sym c.log) ∙ take_all (end r) (records r) (omega arith); foreign = refl })
+    (λ k2 c. record { records = ap (λ (l : Log). take (end r) l.records) (sym c.log) ∙ take_all (end r) (records r) (omega arith); foreign = refl })
 
 applied_back : (r : Replica) (lsn p : ℕ) → r.stripes ≡ all_at lsn → applied_of r p ≡ lsn
 applied_back r lsn p e =
     ap (λ (ss : List Stripe). (get_or ss (p % 16) no_stripe).applied) e
     ∙ ap (λ (s : Stripe). s.applied) (get_or-replicate 16 (p % 16) (record { applied = lsn; published = lsn }) no_stripe (omega arith))
 
+-- such a replica is as restored from a log that goes on
 restored_is : (pages : ℕ) (whole : List Record) (b : Return) → IsPrefixOf (records b.replica) whole → length (records b.replica) ≡ b.lsn → b.replica.kept.master.foreign ≡ [] → b.replica.stripes ≡ all_at b.lsn → IsRestored pages whole b
 restored_is pages whole b prefix long foreign stripes = record {
   log = sym (take_all b.lsn (records b.replica) (omega (arith, long))) ∙ take_prefix b.lsn (records b.replica) whole (omega (arith, long)) prefix;
-  foreign = foreign; stripes = stripes;
-  pages = λ p sound. ap (λ n. value pages (records b.replica) n p) (applied_back b.replica b.lsn p stripes) ∙ value_prefix pages b.lsn p (records b.replica) whole (omega (arith, long)) prefix }
+  foreign = foreign;
+  stripes = stripes;
+  pages = λ p sound. ap (λ n. value pages (records b.replica) n p) (applied_back b.replica b.lsn p stripes) ∙ value_prefix pages b.lsn p (records b.replica) whole (omega (arith, long)) prefix;
+}
 
 -- a finish that isn't cut short
 finish_back : (s : Setting) (logs : Logs) (g : Group) (n : ℕ) (part : Part) → Good s logs g → n < length g.replicas → AllByRecursion (λ (b : Return). (b.replica ≡ part.after) → IsBack logs s.now b) (return_by part.after part.answer)
-  → AllByRecursion (IsBack logs s.now) (return_by (replica (at_node g n part).after n) part.answer)
+    → AllByRecursion (IsBack logs s.now) (return_by (replica (at_node g n part).after n) part.answer)
 finish_back s logs g n part good h p =
     let same : replica (at_node g n part).after n ≡ part.after = ap (λ (xs : List Replica). get_or xs n nobody) (replicas_posted n part.out (with_replica g n part.after)) ∙ get_or-set_same g.replicas n part.after nobody h in
     subst (λ (x : Replica). AllByRecursion (IsBack logs s.now) (return_by x part.answer)) (sym same) (of_answer part.answer p)
@@ -80,6 +86,7 @@ finish_back s logs g n part good h p =
     of_answer (Reverted lsn) q = (q.0 refl, tt)
     of_answer _ q = tt
 
+-- what `finish` makes of the replica
 finish_part_back : (s : Setting) (logs : Logs) (g : Group) (n : ℕ) (full : Bool) → Good s logs g → (let part = finish_part (here g n) (replica g n) full in AllByRecursion (λ (b : Return). (b.replica ≡ part.after) → IsBack logs s.now b) (return_by part.after part.answer))
 unfolding finish_part
 finish_part_back s logs g n full good =
@@ -88,10 +95,16 @@ finish_part_back s logs g n full good =
     let touched : List ℕ = touched_up_to g.config.pages (end r) r in
     let d : FinishedDisk r (all_written r.kept (each_synced (finish_writes r touched))) = finished_disk r touched in
     unless_has (λ part. AllByRecursion (λ (b : Return). (b.replica ≡ part.after) → IsBack logs s.now b) (return_by part.after part.answer)) (checks_of_finish (here g n) r full) r (finishes_touching r touched) (λ why. tt)
-      (λ _. ((λ _. record {
+    (λ _. (
+      (λ _. record {
         past = omega (arith, a.term, a.kept.past);
         prefix = subst (λ (l : List Record). IsPrefixOf l (logs r.term)) (sym d.records) (subst (λ (t : ℕ). IsPrefixOf (records r) (logs t)) (sym a.term) a.kept.prefix);
-        long = ap length d.records; foreign = d.foreign; stripes = refl }), tt))
+        long = ap length d.records;
+        foreign = d.foreign;
+        stripes = refl;
+      }),
+      tt,
+    ))
 
 -- the return that a moment tells
 abbrev return_of : Moment → List Return
@@ -101,14 +114,16 @@ return_of m = return_at m m.event
 abbrev finish_at : Group → ℕ → Part
 finish_at g n = finish_part (here g n) (replica g n) (is_full_to_followed g n)
 
+-- at each event, by the logs before it; where it is cut short, no return is told
 back_at : (s : Setting) (logs : Logs) (g : Group) (e : Event) → Good s logs g → IsEvent s.config e → AllByRecursion (IsBack logs s.now) (return_of (moment g e))
 unfolding done
 back_at s logs g (Finish w suffix) good is =
     let n : ℕ = named g w in
     cut_has (λ q. AllByRecursion (IsBack logs s.now) (return_by (replica q.after n) q.answer)) suffix (at_node g n (finish_at g n)) (λ i mask. tt) (λ c. tt)
-      (finish_back s logs g n (finish_at g n) good (named_there s logs g w good is) (finish_part_back s logs g n (is_full_to_followed g n) good))
+    (finish_back s logs g n (finish_at g n) good (named_there s logs g w good is) (finish_part_back s logs g n (is_full_to_followed g n) good))
 back_at s logs g _ good is = tt
 
+-- in the whole run, by the logs of its terms
 pub returns_are_restored : (c : Config) (es : List Event) → 0 < length c.modes → IsScript c es → RevertedLaw c.pages (run c es)
 returns_are_restored c es h is =
     let ms : List Moment = run c es in

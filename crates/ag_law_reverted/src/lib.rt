@@ -11,5 +11,4 @@ ghost use Rattle.ag_rules.specs.RevertedLaw.{RevertedLaw};
 /// A replica of a run that finishes reverting is as one restored from the log of its term.
 pub fn reverted_as_restored()
     ensures reverted { (c : Config) (es : List Event) → 0 < length c.modes → IsScript c es → RevertedLaw c.pages (run c es) }
-{
-}
+{}

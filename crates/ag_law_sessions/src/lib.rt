@@ -11,5 +11,4 @@ ghost use Rattle.ag_rules.specs.SessionLaw.{SessionLaw};
 /// What the sessions of a run were answered never falls.
 pub fn sessions_never_fall()
     ensures sessions { (c : Config) (es : List Event) → 0 < length c.modes → IsScript c es → SessionLaw (run c es) }
-{
-}
+{}

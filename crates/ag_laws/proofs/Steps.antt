@@ -89,12 +89,18 @@ longer_same s logs n term are = record { longer = λ t. prefix_refl (logs t); ot
 -- an event that writes nothing
 pub quiet : (s : Setting) (logs : Logs) (others : ℕ → Replica) (n : ℕ) (r : Replica) (part : Part) → AreLogs s logs → At s logs n r → At s logs n part.after → Moves r part.after → part.writes ≡ [] → AllByRecursion (PostingFits s logs others n part.after) part.out → PartKeeps s logs others n r part
 quiet s logs others n r part are before after moves none out = record {
-  grown = logs; grows = longer_same s logs n part.after.term are; after = after; moves = moves; out = out;
+  grown = logs;
+  grows = longer_same s logs n part.after.term are;
+  after = after;
+  moves = moves;
+  out = out;
   batches = subst (λ (ws : List Batch). AllByRecursion IsBatch ws) (sym none) tt;
-  writes = λ j. subst (λ (ws : List Batch). KeptKeeps s logs n r.kept (all_written r.kept (take j ws))) (sym none) (of_none j) }
+  writes = λ j. subst (λ (ws : List Batch). KeptKeeps s logs n r.kept (all_written r.kept (take j ws))) (sym none) (of_none j);
+}
   where
     here : KeptKeeps s logs n r.kept r.kept
     here = record { grown = logs; grows = longer_same s logs n (term_of_disk r.kept) are; at = before.kept; incarnation = omega arith }
+
     of_none : (j : ℕ) → KeptKeeps s logs n r.kept (all_written r.kept (take j []))
     of_none zero = here
     of_none (suc j) = here
