@@ -1,0 +1,11 @@
+pub mod Cuts
+pub mod Numbers
+pub mod WordLemmas
+pub mod HexLemmas
+pub mod SuffixLemmas
+pub mod PairLemmas
+pub mod LineTakes
+pub mod LineAgain
+pub mod ScriptLemmas
+pub mod Outcomes
+pub mod InRange
