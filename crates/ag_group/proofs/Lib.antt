@@ -1,1 +1,4 @@
+pub mod CommandWords
 pub mod Lifts
+pub mod Runs
+pub mod Scenarios

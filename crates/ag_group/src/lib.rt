@@ -1,5 +1,10 @@
 //! The group: its nodes, the links between them, the store and the sessions.
 #![tactic(auto)]
 
+mod events;
 pub mod group;
 mod links;
+pub mod play;
+pub mod run;
+pub mod status;
+mod words;
