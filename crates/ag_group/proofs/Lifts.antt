@@ -1,5 +1,5 @@
 -- An event of one node, as an event of the group.
-use Rattle.std.proofs.Common.{◌≡◌, ℕ, ◌+◌, ◌<◌, List, [], ◌∷◌, ◌++◌, length, get_or, set, Bool, true, false, refl, sym, ap, ◌∙◌, subst, arith}
+use Rattle.std.proofs.Common.{◌≡◌, ℕ, zero, suc, ◌+◌, ◌<◌, List, [], ◌∷◌, ◌++◌, length, get_or, set, Bool, true, false, refl, sym, ap, ◌∙◌, subst, arith}
 use Rattle.std.specs.Prelude.{Option, Some, None, if◌then◌else◌}
 use Rattle.std.proofs.lemmas.List.{get_or_read, set-get_or}
 use Rattle.ag_model.specs.declared.config.Token.{Token}
@@ -8,7 +8,7 @@ use Rattle.ag_model.specs.declared.record.Record.{Record}
 use Rattle.ag_model.specs.declared.answer.Answer.{Answer}
 use Rattle.ag_rules.specs.Replica.{Replica}
 use Rattle.ag_rules.specs.Group.{Group, replica, nobody, with_replica}
-use Rattle.ag_rules.specs.Plan.{Part, Here, Check, Case, here, at_node, posted, unless, first_case, refused, at_once}
+use Rattle.ag_rules.specs.Plan.{Part, Posting, Here, Check, Case, here, at_node, posted, unless, first_case, refused, at_once}
 use Rattle.ag_rules.specs.Access.{access, cases_of_access}
 use Rattle.ag_model.specs.declared.answer.Answer.TheVariants.{Lsn}
 use Rattle.ag_model.specs.Rows.{page_of, rows}
@@ -20,6 +20,19 @@ use Rattle.ag_rules.specs.SetEvent.{set_part, pairs_pass, sets, records_of_set, 
 use Rattle.ag_rules.specs.HardenEvent.{harden_part, hardens, hardened_one, checks_of_harden}
 use Rattle.ag_rules.specs.RedoEvent.{redo_part, redoes_touching, checks_of_redo}
 use Rattle.ag_rules.specs.ReadEvent.{read_part, reads_at, checks_of_read, row_answer, is_too_old}
+use Rattle.ag_model.specs.declared.message.Message.{Message}
+use Rattle.ag_model.specs.declared.message.Body.{Body}
+use Rattle.ag_model.specs.declared.message.Body.TheVariants.{Block, Ack}
+use Rattle.ag_rules.specs.Checks.{is_down}
+use Rattle.ag_rules.specs.SendEvent.{send_part}
+use Rattle.ag_rules.specs.BlockMessage.{block_part}
+use Rattle.ag_rules.specs.DeliverEvent.{message_part, arrives, taken}
+use Rattle.std.specs.Prelude.{max}
+use Rattle.std.specs.List.{AllByRecursion}
+use Rattle.ag_model.specs.declared.answer.Answer.TheVariants.{Known}
+use Rattle.ag_rules.specs.Replica.{peer, with_peer}
+use Rattle.ag_rules.specs.AckMessage.{ack_message_part, checks_of_ack_message, known_peer}
+use Rattle.ag_rules.specs.Built.{IsBuiltBody}
 use Rattle.ag_rules.specs.Next.{at_session, with_token, token_after, token, session_of}
 use Rattle.ag_node.specs.declared.site.Site.{Site}
 use Rattle.ag_node.specs.Sites.{here_at}
@@ -41,20 +54,20 @@ pub place_is : (g : Group) (n : ℕ) (site : Site) → site.number ≡ n → sit
 place_is g n site a b c = λ i. record { number = a i; pages = b i; modes = []; store = c i }
 
 pub part_is : (F : Doing) → AsksNoModes F → (g : Group) (n n' : ℕ) (site : Site) (old : Replica) → n < length g.replicas → site.number ≡ n → site.pages ≡ g.config.pages → site.store ≡ g.register → n' ≡ n → old ≡ get_or g.replicas n' old
-  → F (here_at site) old ≡ F (here g n) (replica g n)
+    → F (here_at site) old ≡ F (here g n) (replica g n)
 part_is F free g n n' site old within a b c e o =
     (λ i. F (place_is g n site a b c i) (get_or_read g.replicas n old within (o ∙ ap (λ (k : ℕ). get_or g.replicas k old) e) nobody i)) ∙ free (here g n) (replica g n)
 
 -- the group after an event of one node that sends nothing
 pub lifted : (F : Doing) → AsksNoModes F → IsQuiet F → (g g' : Group) (n n' : ℕ) (site : Site) (old new : Replica) → n < length g.replicas → site.number ≡ n → site.pages ≡ g.config.pages → site.store ≡ g.register → n' ≡ n → old ≡ get_or g.replicas n' old
-  → new ≡ (F (here_at site) old).after → g ≡ g' → record g { replicas = set g.replicas n' new } ≡ (at_node g' n (F (here g' n) (replica g' n))).after
+    → new ≡ (F (here_at site) old).after → g ≡ g' → record g { replicas = set g.replicas n' new } ≡ (at_node g' n (F (here g' n) (replica g' n))).after
 lifted F free quiet g g' n n' site old new within a b c e o step is =
     (λ i. record g { replicas = set g.replicas (e i) ((step ∙ ap (λ (x : Part). x.after) (part_is F free g n n' site old within a b c e o)) i) })
-    ∙ ap (λ (out : List _). posted n out (with_replica g n (F (here g n) (replica g n)).after)) (sym (quiet (here g n) (replica g n)))
+    ∙ ap (λ (out : List Posting). posted n out (with_replica g n (F (here g n) (replica g n)).after)) (sym (quiet (here g n) (replica g n)))
     ∙ (λ i. (at_node (is i) n (F (here (is i) n) (replica (is i) n))).after)
 
 pub told : (F : Doing) → AsksNoModes F → (g g' : Group) (n n' : ℕ) (site : Site) (old : Replica) (a : Answer) → n < length g.replicas → site.number ≡ n → site.pages ≡ g.config.pages → site.store ≡ g.register → n' ≡ n → old ≡ get_or g.replicas n' old
-  → a ≡ (F (here_at site) old).answer → g ≡ g' → a ≡ (F (here g' n) (replica g' n)).answer
+    → a ≡ (F (here_at site) old).answer → g ≡ g' → a ≡ (F (here g' n) (replica g' n)).answer
 told F free g g' n n' site old answer within a b c e o step is =
     step ∙ ap (λ (x : Part). x.answer) (part_is F free g n n' site old within a b c e o) ∙ (λ i. (F (here (is i) n) (replica (is i) n)).answer)
 
@@ -75,14 +88,14 @@ case_out (c ∷ cs) last none h = elim (c.when) as (λ b. (if b then c.part else
 
 access_out : (r : Replica) (p : ℕ) (part : Part) → part.out ≡ [] → (access r p part).out ≡ []
 unfolding access
-access_out r p part h = case_out (cases_of_access r p) part (refl, refl, refl, tt) h
+access_out r p part h = case_out (cases_of_access r p) part (refl, (refl, (refl, tt))) h
 
 pairs_out : (h : Here) (r : Replica) (txn : ℕ) (earlier pairs : List Pair) (part : Part) → part.out ≡ [] → (pairs_pass h r txn earlier pairs part).out ≡ []
 pairs_out h r txn earlier [] part q = q
 pairs_out h r txn earlier (pair ∷ pairs) part q =
     let cs : List Check = checks_of_pair h.pages txn earlier pair (effective h.pages r (page_of h.pages pair.key)) in
     access_out r (page_of h.pages pair.key) (unless cs r (pairs_pass h r txn (earlier ++ pair ∷ []) pairs part))
-      (unless_out cs r (pairs_pass h r txn (earlier ++ pair ∷ []) pairs part) (pairs_out h r txn (earlier ++ pair ∷ []) pairs part q))
+    (unless_out cs r (pairs_pass h r txn (earlier ++ pair ∷ []) pairs part) (pairs_out h r txn (earlier ++ pair ∷ []) pairs part q))
 
 pairs_free : (h : Here) (r : Replica) (txn : ℕ) (earlier pairs : List Pair) (part : Part) → pairs_pass (record h { modes = [] }) r txn earlier pairs part ≡ pairs_pass h r txn earlier pairs part
 pairs_free h r txn earlier [] part = refl
@@ -94,7 +107,7 @@ unfolding set_part
 set_quiet pairs h r =
     let new : List Record = records_of_set h.pages (r.leading.last_txn + 1) pairs in
     unless_out (checks_of_begin h r) r (pairs_pass h r (r.leading.last_txn + 1) [] pairs (sets r new))
-      (pairs_out h r (r.leading.last_txn + 1) [] pairs (sets r new) (unless_out (buffer_is_full r new ∷ []) r (at_once (Lsn (full_end r + length new)) (with_set r new)) refl))
+    (pairs_out h r (r.leading.last_txn + 1) [] pairs (sets r new) (unless_out (buffer_is_full r new ∷ []) r (at_once (Lsn (full_end r + length new)) (with_set r new)) refl))
 
 pub set_free : (pairs : List Pair) → AsksNoModes (λ h r. set_part h r pairs)
 unfolding set_part
@@ -126,3 +139,71 @@ pub read_quiet : (t : Token) (key : ℕ) → IsQuiet (λ h r. read_part h r t ke
 unfolding read_part
 read_quiet t key h r = unless_out (checks_of_read h r t) r (reads_at h r (front r) key)
     (access_out r (page_of h.pages key) (unless (is_too_old (front r) (page_value h.pages r (page_of h.pages key)).horizon ∷ []) r (at_once (row_answer (front r) (rows (records r) (front r) key)) r)) (unless_out (is_too_old (front r) (page_value h.pages r (page_of h.pages key)).horizon ∷ []) r (at_once (row_answer (front r) (rows (records r) (front r) key)) r) refl))
+
+-- the group after an event of a session that leaves its node and sends nothing
+pub session_lifted : (F : Doing) → AsksNoModes F → IsQuiet F → (g g' : Group) (n n' s s' : ℕ) (site : Site) (old : Replica) (seen now : Option Token) (a : Answer) (term : ℕ) → n < length g.replicas → site.number ≡ n → site.pages ≡ g.config.pages → site.store ≡ g.register → n' ≡ n → old ≡ get_or g.replicas n' old
+    → (F (here_at site) old).after ≡ old → a ≡ (F (here_at site) old).answer → seen ≡ get_or g.tokens s None → term ≡ old.term → now ≡ token_after term a seen → s' ≡ s → g ≡ g'
+    → record g { tokens = set g.tokens s' now } ≡ (at_session g' n s (F (here g' n) (replica g' n))).after
+session_lifted F free quiet g g' n n' s s' site old seen now a term within x y z e o left step t u v w is =
+    let node : old ≡ replica g n = get_or_read g.replicas n old within (o ∙ ap (λ (k : ℕ). get_or g.replicas k old) e) nobody in
+    let part : F (here_at site) old ≡ F (here g n) (replica g n) = part_is F free g n n' site old within x y z e o in
+    let after : (F (here g n) (replica g n)).after ≡ replica g n = ap (λ (p : Part). p.after) (sym part) ∙ left ∙ node in
+    let same : (at_node g n (F (here g n) (replica g n))).after ≡ g
+    = ap (λ (out : List Posting). posted n out (with_replica g n (F (here g n) (replica g n)).after)) (quiet (here g n) (replica g n))
+    ∙ ap (with_replica g n) after ∙ (λ i. record g { replicas = set-get_or g.replicas n nobody i }) in
+    let answer : a ≡ (F (here g n) (replica g n)).answer = step ∙ ap (λ (p : Part). p.answer) part in
+    let term_is : term ≡ (replica g n).term = u ∙ ap (λ (r : Replica). r.term) node in
+    let token_is : now ≡ token_after (replica g n).term (F (here g n) (replica g n)).answer (session_of g s) = v ∙ (λ i. token_after (term_is i) (answer i) (t i)) in
+    (λ i. record g { tokens = set g.tokens (w i) (token_is i) })
+    ∙ (λ i. with_token (sym same i) s (replica g n).term (F (here g n) (replica g n)).answer)
+    ∙ (λ i. (at_session (is i) n s (F (here (is i) n) (replica (is i) n))).after)
+
+-- the group once a node did its part, before anything is sent
+pub stepped : (F : Doing) → AsksNoModes F → (g g' : Group) (n n' : ℕ) (site : Site) (old new : Replica) → n < length g.replicas → site.number ≡ n → site.pages ≡ g.config.pages → site.store ≡ g.register → n' ≡ n → old ≡ get_or g.replicas n' old
+    → new ≡ (F (here_at site) old).after → g ≡ g' → record g { replicas = set g.replicas n' new } ≡ with_replica g' n (F (here g' n) (replica g' n)).after
+stepped F free g g' n n' site old new within a b c e o step is =
+    (λ i. record g { replicas = set g.replicas (e i) ((step ∙ ap (λ (x : Part). x.after) (part_is F free g n n' site old within a b c e o)) i) })
+    ∙ (λ i. with_replica (is i) n (F (here (is i) n) (replica (is i) n)).after)
+
+pub sent : (F : Doing) → AsksNoModes F → (g g' : Group) (n n' : ℕ) (site : Site) (old : Replica) (out : List Posting) → n < length g.replicas → site.number ≡ n → site.pages ≡ g.config.pages → site.store ≡ g.register → n' ≡ n → old ≡ get_or g.replicas n' old
+    → out ≡ (F (here_at site) old).out → g ≡ g' → out ≡ (F (here g' n) (replica g' n)).out
+sent F free g g' n n' site old out within a b c e o step is =
+    step ∙ ap (λ (x : Part). x.out) (part_is F free g n n' site old within a b c e o) ∙ (λ i. (F (here (is i) n) (replica (is i) n)).out)
+
+pub send_free : (m : ℕ) (full : Bool) → AsksNoModes (λ h r. send_part h r m full)
+unfolding send_part
+send_free m full h r = refl
+
+pub message_free : (from : ℕ) (full : Bool) (message : Message) → IsBuiltBody message.body → AsksNoModes (λ h r. message_part h from r full message)
+unfolding block_part
+message_free from full message built h r = ap (λ (x : Part). unless (is_down h r ∷ []) r x) (body_free message.body built)
+  where
+    body_free : (body : Body) → IsBuiltBody body → arrives (record h { modes = [] }) from r full message.term body ≡ arrives h from r full message.term body
+    body_free (Block b) built = refl
+    body_free (Ack hardened low) built = refl
+    body_free _ built = absurd built
+
+-- a message that is taken and a node that is changed, in either order
+pub after_delivery : (stays : Bool) (g : Group) (n m i : ℕ) (r : Replica) (out : List Posting) →
+    posted m out (if stays then with_replica g m r else taken (with_replica g m r) n m i) ≡ posted m out (with_replica (if stays then g else taken g n m i) m r)
+after_delivery true g n m i r out = refl
+after_delivery false g n m i r out = refl
+
+pub untouched : (g : Group) (n : ℕ) → g ≡ with_replica g n (replica g n)
+untouched g n = λ i. record g { replicas = sym (set-get_or g.replicas n nobody) i }
+
+pub ack_quiet : (h : Here) (from : ℕ) (r : Replica) (full : Bool) (term hardened low : ℕ) → (unless (is_down h r ∷ []) r (arrives h from r full term (Ack hardened low))).out ≡ []
+unfolding ack_message_part
+ack_quiet h from r full term hardened low =
+    unless_out (is_down h r ∷ []) r (ack_message_part from r term hardened low) (unless_out (checks_of_ack_message from r term) r (at_once (Known (max (peer r from).hardened hardened)) (with_peer r from (known_peer (peer r from) hardened low))) refl)
+
+-- what holds of each item holds where one is replaced
+pub all_set : {X : Type 0} (P : X → Type 0) (xs : List X) (i : ℕ) (x : X) → AllByRecursion P xs → P x → AllByRecursion P (set xs i x)
+all_set P [] i x p q = tt
+all_set P (y ∷ ys) zero x p q = (q, p.1)
+all_set P (y ∷ ys) (suc i) x p q = (p.0, all_set P ys i x p.1 q)
+
+pub at_place : {X : Type 0} (P : X → Type 0) (xs : List X) (i : ℕ) (d : X) → i < length xs → AllByRecursion P xs → P (get_or xs i d)
+at_place P [] i d h p = absurd (omega arith)
+at_place P (x ∷ xs) zero d h p = p.0
+at_place P (x ∷ xs) (suc i) d h p = at_place P xs i d (omega arith) p.1

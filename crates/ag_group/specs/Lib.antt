@@ -1,6 +1,7 @@
-pub mod Groups
-pub mod Statuses
-pub mod Scenario
-pub mod Ran
-pub mod Played
+pub mod Arrivals
 pub mod CommandWords
+pub mod Groups
+pub mod Played
+pub mod Ran
+pub mod Scenario
+pub mod Statuses

@@ -4,6 +4,7 @@
 mod events;
 pub mod group;
 mod links;
+mod opening;
 pub mod play;
 pub mod run;
 pub mod status;

@@ -1,5 +1,5 @@
 //! The messages in flight.
-ghost use Rattle.std.specs.Prelude.{◌≡◌, ◌<◌, ◌≤◌, ◌-◌, ◌++◌, ◌∷◌, [], length, take, drop, set, get_or, slice_get, Some, None, MatchOption, IfSome, IfOk, OnOk, nat_le, replicate};
+ghost use Rattle.std.specs.Prelude.{◌≡◌, ◌<◌, ◌≤◌, ◌+◌, ◌-◌, ◌++◌, ◌∷◌, [], length, take, drop, set, get_or, slice_get, Some, None, MatchOption, IfSome, IfOk, OnOk, nat_le, replicate};
 ghost use Rattle.ag_rules.specs.Built.{IsBuiltMessage};
 
 use ag_model::message::Message;
@@ -60,7 +60,7 @@ impl Link {
         requires some { 0 < number }
         ensures { self.new ≡ take (number - 1) self.old ++ drop number self.old }
     {
-        let _ = self.messages.remove(usize::from(number) - 1);
+        remove_at(&mut self.messages, usize::from(number) - 1);
     }
 
     /// Adds a message at the end.
@@ -70,6 +70,15 @@ impl Link {
     {
         self.messages.push_back(message)?;
         Ok(())
+    }
+}
+
+/// Takes the message at a place out, if there is one.
+fn remove_at(messages: &mut VecDeque<Message>, place: usize)
+    ensures { messages.new.items ≡ take place messages.old.items ++ drop (place + 1) messages.old.items }
+{
+    if place < messages.len() {
+        let _ = messages.remove(place);
     }
 }
 
@@ -131,7 +140,8 @@ impl Links {
     pub(crate) fn push(&mut self, m: u8, message: Message) -> Result<(), NoMemory>
         requires within { m < length self.old }
         requires built { IsBuiltMessage message }
-        ensures { OnOk result (self.new ≡ set self.old m (get_or self.old m [] ++ message ∷ [])) }
+        ensures ok { OnOk result (self.new ≡ set self.old m (get_or self.old m [] ++ message ∷ [])) }
+        ensures count { length self.new ≡ length self.old }
     {
         let link = &mut self.links[usize::from(m)];
         link.push(message)?;

@@ -14,7 +14,7 @@ use Rattle.ag_model.specs.Blocks.{with_block, after_to}
 use Rattle.ag_model.specs.Rows.{rows, page_of}
 use Rattle.ag_model.specs.Page.{value}
 use Rattle.ag_rules.specs.Replica.{Replica, Peer, records, end, front, applied_of, page_value}
-use Rattle.ag_rules.specs.Plan.{Part, Here, unless, at_once}
+use Rattle.ag_rules.specs.Plan.{Part, Here, unless, at_once, refused}
 use Rattle.ag_rules.specs.Redo.{due_pages, touched_up_to}
 use Rattle.ag_rules.specs.HardenEvent.{hardens, hardened_one}
 use Rattle.ag_rules.specs.RedoEvent.{redoes_touching}
@@ -103,6 +103,10 @@ reads_is leads log at ds buffer txn synced peers h key =
     ∙ access_is_free leads log at ds (leading_of buffer txn synced peers) p _
     ∙ (λ i. unless (is_too_old at (value h.pages log.records (stands leads log at ds (leading_of buffer txn synced peers) p i) p).horizon ∷ []) r (at_once (row_answer at (rows log.records at key)) r))
 
+same_after : (b : Bool) (x y : Part) (r : Replica) → x.after ≡ r → y.after ≡ r → (if b then x else y).after ≡ r
+same_after true x y r p q = p
+same_after false x y r p q = q
+
 pub read_too_old : (leads : Bool) (log : Log) (at : ℕ) (ds : List Bool) (buffer : List Record) (txn synced : ℕ) (peers : List Peer) (r : Replica) (h : Here) (key horizon : ℕ)
     → node_of leads log at ds (leading_of buffer txn synced peers) ≡ r → horizon ≡ (value h.pages log.records at (page_of h.pages key)).horizon → at < horizon
     → No (TooOld at horizon) ≡ (reads_at h r (front r) key).answer
@@ -120,3 +124,13 @@ read_row leads log at ds buffer txn synced peers r h key horizon row is e new fo
     let told : (unless (is_too_old at horizon ∷ []) n (at_once (row_answer at row) n)).answer ≡ row_answer at row = rw (le-ltb at horizon new) refl in
     sym told ∙ (λ i. (unless (is_too_old at (e i) ∷ []) n (at_once (row_answer at (found i)) n)).answer)
     ∙ sym (ap (λ (x : Part). x.answer) (reads_is leads log at ds buffer txn synced peers h key)) ∙ (λ i. (reads_at h (is i) (front (is i)) key).answer)
+
+-- a read leaves the node as it was
+pub read_left : (leads : Bool) (log : Log) (at : ℕ) (ds : List Bool) (buffer : List Record) (txn synced : ℕ) (peers : List Peer) (r : Replica) (h : Here) (key : ℕ)
+  → node_of leads log at ds (leading_of buffer txn synced peers) ≡ r → (reads_at h r (front r) key).after ≡ r
+read_left leads log at ds buffer txn synced peers r h key is =
+    let n : Replica = node_of leads log at ds (leading_of buffer txn synced peers) in
+    (λ i. (reads_at h (sym is i) (front (sym is i)) key).after)
+    ∙ ap (λ (x : Part). x.after) (reads_is leads log at ds buffer txn synced peers h key)
+    ∙ same_after (nat_lt at (value h.pages log.records at (page_of h.pages key)).horizon) (refused (TooOld at (value h.pages log.records at (page_of h.pages key)).horizon) n) (at_once (row_answer at (rows log.records at key)) n) n refl refl
+    ∙ is

@@ -5,7 +5,7 @@ mod listed;
 mod log;
 mod marks;
 pub mod node;
-mod opening;
+pub mod opening;
 mod peer;
 mod room;
 mod rows;

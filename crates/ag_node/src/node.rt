@@ -67,6 +67,14 @@ impl Node {
         TERM
     }
 
+    /// Whether it is up.
+    pub fn is_up(&self) -> bool
+        ensures { result ≡ self.now.up }
+    {
+        let _ = &self.leads;
+        true
+    }
+
     /// Whether it is primary.
     fn leads(&self) -> bool
         ensures is { result ≡ self.now.leads }

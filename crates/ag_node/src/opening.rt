@@ -59,7 +59,7 @@ fn is_waited_for(mode: &Mode) -> bool
 }
 
 /// The synchronised set: bit i is replica i, of which the first is the primary.
-fn synced_at_opening(modes: &[Mode]) -> Result<u16, NoMemory>
+pub fn synced_at_opening(modes: &[Mode]) -> Result<u16, NoMemory>
     ensures { IfOk result (λ set. set ≡ synced_at_opening modes.now) }
 {
     match modes {

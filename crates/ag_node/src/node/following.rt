@@ -58,7 +58,8 @@ impl Node {
     #[tactic(auto, unfolding(ag_rules::specs::ReadEvent::read_part))]
     pub fn read(&self, site: &Site, token: &Token, key: u32) -> Answer
         requires pages { site.now.pages ≡ length self.now.pages }
-        ensures { result ≡ (read_part (here_at site.now) self.now token.now key).answer }
+        ensures answer { result ≡ (read_part (here_at site.now) self.now token.now key).answer }
+        ensures left { (read_part (here_at site.now) self.now token.now key).after ≡ self.now }
     {
         if self.leads() {
             return Answer::No(Refusal::NotSecondary { node: site.number });
@@ -82,7 +83,8 @@ impl Node {
     /// The row of a key at the front, where its page allows it.
     fn row_at_front(&self, site: &Site, key: u32) -> Answer
         requires pages { site.now.pages ≡ length self.now.pages }
-        ensures { result ≡ (reads_at (here_at site.now) self.now (front self.now) key).answer }
+        ensures answer { result ≡ (reads_at (here_at site.now) self.now (front self.now) key).answer }
+        ensures left { (reads_at (here_at site.now) self.now (front self.now) key).after ≡ self.now }
     {
         let records = self.log.records();
         let page = 16 + (key % u32::from(site.pages)) as u16;

@@ -9,4 +9,4 @@ pub returns-clause-after : goal.returns-clause-after
 returns-clause-after c =
     let within : c.args.n < length c.self.inside.nodes.items = omega (arith, c.self.invariant.each, c.requires.node, ap (λ (g : Group). length g.config.modes) c.self.view_is) in
     lifted redo_part redo_free redo_quiet (the_view c.self.inside) c.args.self.now c.args.n c.from.result c.site-site.result c.index_mut-node.result.now c.redo.new.self within
-      c.site-site.ensures.number (c.site-site.ensures.pages ∙ ap (λ (g : Group). g.config.pages) (sym c.self.view_is)) (c.site-site.ensures.store ∙ ap (λ (g : Group). g.register) (sym c.self.view_is)) c.from.ensures c.index_mut-node.ensures.value c.redo.ensures.after c.self.view_is
+    c.site-site.ensures.number (c.site-site.ensures.pages ∙ ap (λ (g : Group). g.config.pages) (sym c.self.view_is)) (c.site-site.ensures.store ∙ ap (λ (g : Group). g.register) (sym c.self.view_is)) c.from.ensures c.index_mut-node.ensures.value c.redo.ensures.after c.self.view_is

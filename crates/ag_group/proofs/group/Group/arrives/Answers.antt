@@ -1,0 +1,31 @@
+use Rattle.std.proofs.Common.{◌≡◌, ◌<◌, ◌-◌, ℕ, [], List, length, get_or, sym, ap, ◌∙◌, arith}
+use Rattle.std.specs.Prelude.{slice_get}
+use Rattle.std.proofs.lemmas.List.{get_or_read}
+use Rattle.ag_model.specs.declared.message.Message.{Message}
+use Rattle.ag_rules.specs.Group.{Group, link}
+use Rattle.ag_rules.specs.DeliverEvent.{message_part}
+use Rattle.ag_node.specs.Out.{posting_of}
+use Rattle.ag_group.specs.contracts.group.Group.{the_view}
+use Rattle.ag_group.proofs.Lifts.{stepped, told, sent, message_free}
+use Rattle.ag_group.proofs.group.Group.arrives.Goals as goal
+
+pub returns-clause-part : goal.returns-clause-part
+returns-clause-part c =
+    let g : Group = the_view c.self.inside in
+    let message : Message = c.in-Some.message.now in
+    let within : c.args.m < length c.self.inside.nodes.items = omega (arith, c.self.invariant.each, c.requires.to, ap (λ (g : Group). length g.config.modes) c.self.view_is) in
+    let row : c.args.n < length c.self.inside.links.items = omega (arith, c.self.invariant.rows, c.requires.from, ap (λ (g : Group). length g.config.modes) c.self.view_is) in
+    let at_n : c.index.result.now ≡ get_or g.links c.args.n [] = get_or_read g.links c.args.n c.index.result.now row (c.index.ensures ∙ ap (λ (k : ℕ). get_or g.links k c.index.result.now) c.from.ensures) [] in
+    let link_is : get_or c.index.result.now c.args.m [] ≡ link c.args.self.now c.args.n c.args.m = ap (λ (x : List (List Message)). get_or x c.args.m []) at_n ∙ ap (λ (g : Group). link g c.args.n c.args.m) c.self.view_is in
+    let free = message_free c.args.n c.args.full message c.in-Some.ensures.built in (
+      message,
+      sym (ap (λ (x : List Message). slice_get x (c.args.number - 1)) link_is) ∙ c.in-Some.ensures.found,
+      record {
+        answered = told (λ h r. message_part h c.args.n r c.args.full message) free g c.args.self.now c.args.m c.from-2.result c.site-site.result c.index_mut-node.result.now c.in_ok-told.told.0 within
+            c.site-site.ensures.number (c.site-site.ensures.pages ∙ ap (λ (g : Group). g.config.pages) (sym c.self.view_is)) (c.site-site.ensures.store ∙ ap (λ (g : Group). g.register) (sym c.self.view_is)) c.from-2.ensures c.index_mut-node.ensures.value c.in_ok-told.ensures.answer c.self.view_is;
+        replied = sent (λ h r. message_part h c.args.n r c.args.full message) free g c.args.self.now c.args.m c.from-2.result c.site-site.result c.index_mut-node.result.now (posting_of c.args.n c.in_ok-told.told.1) within
+            c.site-site.ensures.number (c.site-site.ensures.pages ∙ ap (λ (g : Group). g.config.pages) (sym c.self.view_is)) (c.site-site.ensures.store ∙ ap (λ (g : Group). g.register) (sym c.self.view_is)) c.from-2.ensures c.index_mut-node.ensures.value c.in_ok-told.ensures.out c.self.view_is;
+        left = stepped (λ h r. message_part h c.args.n r c.args.full message) free g c.args.self.now c.args.m c.from-2.result c.site-site.result c.index_mut-node.result.now c.arrive.new.node within
+            c.site-site.ensures.number (c.site-site.ensures.pages ∙ ap (λ (g : Group). g.config.pages) (sym c.self.view_is)) (c.site-site.ensures.store ∙ ap (λ (g : Group). g.register) (sym c.self.view_is)) c.from-2.ensures c.index_mut-node.ensures.value c.in_ok-told.ensures.after c.self.view_is;
+      },
+    )
