@@ -1,0 +1,9 @@
+pub mod Prefix
+pub mod Ends
+pub mod Logs
+pub mod Disk
+pub mod At
+pub mod Fits
+pub mod Good
+pub mod First
+pub mod Keeps
