@@ -1,3 +1,6 @@
+pub mod CommandWords
 pub mod Lifts
 pub mod Openings
 pub mod Refused
+pub mod Runs
+pub mod Scenarios

@@ -202,12 +202,12 @@ session_stays : (g : Group) (n s : ℕ) (part : Part) → Stays leaves_node (rep
 session_stays g n s part stays why e t =
     (λ i. with_token (node_stays leaves_node g n part stays why e t i) s (replica g n).term (e i)) ∙ (λ i. record g { tokens = set-get_or g.tokens s None i })
 
-apart_stays : (g : Group) (n m : ℕ) (plan : Plan) (why : Refusal) → ((plan.answer ≡ No why) → plan.after ≡ g) → (apart g n m plan).answer ≡ No why → (apart g n m plan).after ≡ g
-apart_stays g n m plan why rest = by_test (n == m)
+apart_stays : (g : Group) (n m : ℕ) (plan : Plan) (why : Refusal) → ((n == m) ≡ false → plan.answer ≡ No why → plan.after ≡ g) → (apart g n m plan).answer ≡ No why → (apart g n m plan).after ≡ g
+apart_stays g n m plan why rest = by_test (n == m) refl
   where
-    by_test : (b : Bool) → (if b then at_node g n (refused Nothing (replica g n)) else plan).answer ≡ No why → (if b then at_node g n (refused Nothing (replica g n)) else plan).after ≡ g
-    by_test true e = λ i. record g { replicas = set-get_or g.replicas n nobody i }
-    by_test false e = rest e
+    by_test : (b : Bool) → (n == m) ≡ b → (if b then at_node g n (refused Nothing (replica g n)) else plan).answer ≡ No why → (if b then at_node g n (refused Nothing (replica g n)) else plan).after ≡ g
+    by_test true q e = λ i. record g { replicas = set-get_or g.replicas n nobody i }
+    by_test false q e = rest q e
 
 -- an answer that leaves the group, of a plan that stays
 pub left_by : (e : Event) (test : Refusal → Bool) (g new : Group) (plan : Plan) (a : Answer) → ((why : Refusal) → leaves_group e why ≡ test why) → a ≡ plan.answer → new ≡ plan.after
@@ -245,11 +245,11 @@ arrival_left g n m i message built why e t =
     let stays_there : leaves part.answer ≡ true = ap leaves e ∙ remains why e t in
     (λ j. posted m ((stays why e t).1 j) (with_replica (if stays_there j then g else taken g n m i) m ((stays why e t).0 j))) ∙ (λ j. record g { replicas = set-get_or g.replicas m nobody j })
 
-pub deliver_left : (g : Group) (n m i : ℕ) → ((message : Message) → slice_get (link g n m) (i - 1) ≡ Some message → IsBuiltBody message.body) → (why : Refusal)
+pub deliver_left : (g : Group) (n m i : ℕ) → ((message : Message) → (n == m) ≡ false → slice_get (link g n m) (i - 1) ≡ Some message → IsBuiltBody message.body) → (why : Refusal)
     → (apart g n m (plan_of_deliver g n m i false)).answer ≡ No why → leaves_message why ≡ true → (apart g n m (plan_of_deliver g n m i false)).after ≡ g
 unfolding plan_of_deliver
-deliver_left g n m i built why e t = apart_stays g n m (plan_of_deliver g n m i false) why (by_found (slice_get (link g n m) (i - 1)) refl) e
+deliver_left g n m i built why e t = apart_stays g n m (plan_of_deliver g n m i false) why (λ two. by_found two (slice_get (link g n m) (i - 1)) refl) e
   where
-    by_found : (found : Option Message) → slice_get (link g n m) (i - 1) ≡ found → (plan_of_message g n m i false found).answer ≡ No why → (plan_of_message g n m i false found).after ≡ g
-    by_found None is q = λ j. record g { replicas = set-get_or g.replicas m nobody j }
-    by_found (Some message) is q = arrival_left g n m i message (built message is) why q t
+    by_found : (n == m) ≡ false → (found : Option Message) → slice_get (link g n m) (i - 1) ≡ found → (plan_of_message g n m i false found).answer ≡ No why → (plan_of_message g n m i false found).after ≡ g
+    by_found two None is q = λ j. record g { replicas = set-get_or g.replicas m nobody j }
+    by_found two (Some message) is q = arrival_left g n m i message (built message two is) why q t

@@ -1,6 +1,6 @@
 //! The group.
-ghost use Rattle.std.specs.Prelude.{◌≡◌, ◌<◌, ◌≤◌, IfOk, OnOk, IfSome, length, get_or, set, true, false, [], nat_le, ◌++◌, ◌∷◌};
-ghost use Rattle.ag_rules.specs.Group.{opening, replica, with_replica, is_full};
+ghost use Rattle.std.specs.Prelude.{◌≡◌, ◌<◌, ◌≤◌, IfOk, OnOk, IfSome, length, get_or, set, ◌-◌, ◌==◌, Some, slice_get, true, false, [], nat_le, ◌++◌, ◌∷◌};
+ghost use Rattle.ag_rules.specs.Group.{opening, replica, with_replica, is_full, link};
 ghost use Rattle.ag_rules.specs.Plan.{here, at_node, posted};
 ghost use Rattle.ag_rules.specs.SetEvent.{set_part};
 ghost use Rattle.ag_rules.specs.HardenEvent.{harden_part};
@@ -14,6 +14,7 @@ ghost use Rattle.ag_rules.specs.Script.{IsConfig, IsEvent, IsWho};
 ghost use Rattle.ag_rules.specs.Built.{IsBuilt, IsBuiltMessage};
 ghost use Rattle.ag_rules.specs.Allowed.{IsAllowed, next};
 ghost use Rattle.ag_model.specs.declared.answer.Refusal.{Refusal};
+ghost use Rattle.ag_model.specs.declared.message.Message.{Message};
 ghost use Rattle.ag_group.specs.Arrivals.{IsArrival};
 ghost use Rattle.ag_group.specs.Refusals.{IsLeft, leaves_message};
 ghost use Rattle.ag_node.specs.Out.{posting_of};
@@ -290,7 +291,6 @@ impl Group {
     }
 
     /// `deliver`: the message of a number from n to m arrives.
-    #[tactic(auto, unfolding(ag_rules::specs::DeliverEvent::plan_of_deliver))]
     fn deliver(&mut self, n: u8, m: u8, number: u16) -> Result<Answer, NoMemory>
         requires from { n < length self.old.config.modes }
         requires to { m < length self.old.config.modes }
@@ -298,6 +298,21 @@ impl Group {
         ensures answer { IfOk result (λ a. a ≡ (apart self.old n m (plan_of_deliver self.old n m number false)).answer) }
         ensures after { OnOk result (self.new ≡ (apart self.old n m (plan_of_deliver self.old n m number false)).after) }
         ensures refused { IfOk result (λ a. (why : Refusal) → a ≡ Answer.No why → leaves_message why ≡ true → self.new ≡ self.old) }
+        ensures config { OnOk result (self.new.config ≡ self.old.config) }
+    {
+        let answer = self.deliver_message(n, m, number)?;
+        Ok(answer)
+    }
+
+    /// The same; each message that may arrive is one of those that are sent so far.
+    #[tactic(auto, unfolding(ag_rules::specs::DeliverEvent::plan_of_deliver))]
+    fn deliver_message(&mut self, n: u8, m: u8, number: u16) -> Result<Answer, NoMemory>
+        requires from { n < length self.old.config.modes }
+        requires to { m < length self.old.config.modes }
+        requires number { 1 ≤ number }
+        ensures answer { IfOk result (λ a. a ≡ (apart self.old n m (plan_of_deliver self.old n m number false)).answer) }
+        ensures after { OnOk result (self.new ≡ (apart self.old n m (plan_of_deliver self.old n m number false)).after) }
+        ensures built { OnOk result ((message : Message) → (n == m) ≡ false → slice_get (link self.old n m) (number - 1) ≡ Some message → IsBuiltMessage message) }
         ensures config { OnOk result (self.new.config ≡ self.old.config) }
     {
         if n == m {

@@ -1,6 +1,11 @@
 //! The group: its nodes, the links between them, the store and the sessions.
 #![tactic(auto)]
 
+mod events;
 pub mod group;
 mod links;
 mod opening;
+pub mod play;
+pub mod run;
+pub mod status;
+mod words;

@@ -1,0 +1,38 @@
+use Rattle.std.proofs.Common.{◌≡◌, ap}
+use Rattle.ag_model.specs.declared.event.Event.{Event}
+use Rattle.ag_rules.specs.Group.{Group, replica, is_full}
+use Rattle.ag_rules.specs.Plan.{here, at_node}
+use Rattle.ag_rules.specs.SetEvent.{set_part}
+use Rattle.ag_rules.specs.HardenEvent.{harden_part}
+use Rattle.ag_rules.specs.RedoEvent.{redo_part}
+use Rattle.ag_rules.specs.ReadEvent.{read_part}
+use Rattle.ag_rules.specs.SendEvent.{send_part}
+use Rattle.ag_rules.specs.Next.{apart, at_session, token}
+use Rattle.ag_group.specs.Refusals.{leaves_node, leaves_group}
+use Rattle.ag_group.proofs.Refused.{left_by, set_left, harden_left, redo_left, read_left, send_left}
+use Rattle.ag_group.proofs.group.Group.step.Goals as goal
+
+pub returns-in_ok-answer-in-Set-clause-refused : goal.returns-in_ok-answer-in-Set-clause-refused
+returns-in_ok-answer-in-Set-clause-refused c =
+    let g : Group = c.args.self.now in
+    left_by c.args.event.now leaves_node g c.set.new.self (at_node g c.named-n.result (set_part (here g c.named-n.result) (replica g c.named-n.result) c.in-Set.pairs)) c.in_ok-answer-in-Set.answer (λ why. ap (λ (e : Event). leaves_group e why) c.in-Set.is) c.in_ok-answer-in-Set.ensures.answer c.in_ok-answer-in-Set.ensures.after (set_left g c.named-n.result c.in-Set.pairs)
+
+pub returns-in_ok-answer-in-Harden-clause-refused : goal.returns-in_ok-answer-in-Harden-clause-refused
+returns-in_ok-answer-in-Harden-clause-refused c =
+    let g : Group = c.args.self.now in
+    left_by c.args.event.now leaves_node g c.harden.new.self (at_node g c.named-n-in-Harden.result (harden_part (here g c.named-n-in-Harden.result) (replica g c.named-n-in-Harden.result))) c.in_ok-answer-in-Harden.answer (λ why. ap (λ (e : Event). leaves_group e why) c.in-Harden.is) c.in_ok-answer-in-Harden.ensures.answer c.in_ok-answer-in-Harden.ensures.after (harden_left g c.named-n-in-Harden.result)
+
+pub returns-in_ok-answer-in-Send-clause-refused : goal.returns-in_ok-answer-in-Send-clause-refused
+returns-in_ok-answer-in-Send-clause-refused c =
+    let g : Group = c.args.self.now in
+    left_by c.args.event.now leaves_node g c.send.new.self (apart g c.named-n-in-Send.result c.named-m.result (at_node g c.named-n-in-Send.result (send_part (here g c.named-n-in-Send.result) (replica g c.named-n-in-Send.result) c.named-m.result (is_full g c.named-n-in-Send.result c.named-m.result)))) c.in_ok-answer-in-Send.answer (λ why. ap (λ (e : Event). leaves_group e why) c.in-Send.is) c.in_ok-answer-in-Send.ensures.answer c.in_ok-answer-in-Send.ensures.after (send_left g c.named-n-in-Send.result c.named-m.result)
+
+pub returns-in-Redo-clause-refused : goal.returns-in-Redo-clause-refused
+returns-in-Redo-clause-refused c =
+    let g : Group = c.args.self.now in
+    left_by c.args.event.now leaves_node g c.redo-answer.new.self (at_node g c.named-n-in-Redo.result (redo_part (here g c.named-n-in-Redo.result) (replica g c.named-n-in-Redo.result))) c.redo-answer.result (λ why. ap (λ (e : Event). leaves_group e why) c.in-Redo.is) c.redo-answer.ensures.answer c.redo-answer.ensures.after (redo_left g c.named-n-in-Redo.result)
+
+pub returns-in-Read-clause-refused : goal.returns-in-Read-clause-refused
+returns-in-Read-clause-refused c =
+    let g : Group = c.args.self.now in
+    left_by c.args.event.now leaves_node g c.read-answer.new.self (at_session g c.named-n-in-Read.result c.in-Read.session (read_part (here g c.named-n-in-Read.result) (replica g c.named-n-in-Read.result) (token g c.in-Read.session) c.in-Read.key)) c.read-answer.result (λ why. ap (λ (e : Event). leaves_group e why) c.in-Read.is) c.read-answer.ensures.answer c.read-answer.ensures.after (read_left g c.named-n-in-Read.result c.in-Read.session c.in-Read.key)
