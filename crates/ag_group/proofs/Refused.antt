@@ -231,7 +231,7 @@ pub send_left : (g : Group) (n m : ℕ) (why : Refusal) → (apart g n m (at_nod
     → (apart g n m (at_node g n (send_part (here g n) (replica g n) m (is_full g n m)))).after ≡ g
 send_left g n m why e t =
     apart_stays g n m (at_node g n (send_part (here g n) (replica g n) m (is_full g n m))) why
-    (λ q. node_stays leaves_node g n (send_part (here g n) (replica g n) m (is_full g n m)) (send_stays (here g n) (replica g n) m (is_full g n m)) why q t) e
+    (λ two q. node_stays leaves_node g n (send_part (here g n) (replica g n) m (is_full g n m)) (send_stays (here g n) (replica g n) m (is_full g n m)) why q t) e
 
 -- a delivery that is refused so: the message stays, and the node is as it was
 arrival_left : (g : Group) (n m i : ℕ) (message : Message) → IsBuiltBody message.body → (why : Refusal) → (message_part (here g m) n (replica g m) (is_full g m n) message).answer ≡ No why → leaves_message why ≡ true

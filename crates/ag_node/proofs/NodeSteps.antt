@@ -127,7 +127,7 @@ read_row leads log at ds buffer txn synced peers r h key horizon row is e new fo
 
 -- a read leaves the node as it was
 pub read_left : (leads : Bool) (log : Log) (at : ℕ) (ds : List Bool) (buffer : List Record) (txn synced : ℕ) (peers : List Peer) (r : Replica) (h : Here) (key : ℕ)
-  → node_of leads log at ds (leading_of buffer txn synced peers) ≡ r → (reads_at h r (front r) key).after ≡ r
+    → node_of leads log at ds (leading_of buffer txn synced peers) ≡ r → (reads_at h r (front r) key).after ≡ r
 read_left leads log at ds buffer txn synced peers r h key is =
     let n : Replica = node_of leads log at ds (leading_of buffer txn synced peers) in
     (λ i. (reads_at h (sym is i) (front (sym is i)) key).after)
