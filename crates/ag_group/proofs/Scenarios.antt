@@ -1,10 +1,13 @@
 -- A scenario, and the outcome of reading it.
-use Rattle.std.proofs.Common.{◌≡◌, ℕ, ◌+◌, ◌≤◌, List, ◌++◌, Option, Some, None, refl, sym, ap, subst, ◌∙◌, arith, length, ◌⊎◌, inl, inr}
+use Rattle.std.proofs.Common.{◌≡◌, ℕ, ◌+◌, ◌<◌, ◌≤◌, List, ◌++◌, Option, Some, None, refl, sym, ap, subst, ◌∙◌, arith, length, ◌⊎◌, inl, inr}
 use Rattle.std.specs.Prelude.{IfSome, codes, ◌∷◌, []}
 use Rattle.ag_model.specs.declared.config.Config.{Config}
 use Rattle.ag_model.specs.declared.event.Event.{Event}
 use Rattle.ag_script.specs.Lines.{IsScriptText, IsFirstBad, IsTooMany}
 use Rattle.ag_rules.specs.Script.{IsConfig, IsScript}
+use Rattle.ag_rules.specs.Run.{run}
+use Rattle.ag_rules.specs.ReadsRight.{ReadsRight}
+use Rattle.ag_rules.specs.SessionLaw.{SessionLaw}
 use Rattle.ag_script.specs.declared.fault.ScriptFault.{ScriptFault}
 use Rattle.ag_script.specs.declared.fault.ScriptFault.TheVariants as Fault
 use Rattle.std.specs.Io.KnownBytes.{Keeps}
@@ -56,8 +59,16 @@ not_events fault line is (inr e) = let f : Fault.Events ≡ Fault.NoMemory = sym
 
 -- ---- a run of what was read
 
-pub played : (text script : List ℕ) (c : Config) (events : List Event) (a b : Option (List ℕ)) → length text ≤ most_bytes → HasScript text script → c ≡ default_config → IsConfig c → IsScriptText c script events → IsScript c events → HasRun c events a b → IsPlayed (Some text) a b
-played text script c events a b few has head settings says range ran = record {
+-- what is shown of the reads of each run
+abbrev pub ReadLaw : Type 0
+ReadLaw = (c : Config) (es : List Event) → 0 < length c.modes → IsScript c es → ReadsRight (run c es)
+
+-- what is shown of the sessions of each run
+abbrev pub SessionsLaw : Type 0
+SessionsLaw = (c : Config) (es : List Event) → 0 < length c.modes → IsScript c es → SessionLaw (run c es)
+
+pub played : (text script : List ℕ) (c : Config) (events : List Event) (a b : Option (List ℕ)) → length text ≤ most_bytes → HasScript text script → c ≡ default_config → IsConfig c → IsScriptText c script events → IsScript c events → ReadLaw → SessionsLaw → HasRun c events a b → IsPlayed (Some text) a b
+played text script c events a b few has head settings says range reads sessions ran = record {
   config = c;
   events = events;
   answers = ran.answers;
@@ -65,6 +76,8 @@ played text script c events a b few has head settings says range ran = record {
   settings = settings;
   in_range = range;
   lawful = ran.lawful;
+  reads = reads c events (omega (arith, settings.replicas.0)) range;
+  sessions = sessions c events (omega (arith, settings.replicas.0)) range;
   written = ran.written;
 }
 
@@ -100,6 +113,8 @@ told_played o text a b e p = record {
   settings = p.settings;
   in_range = p.in_range;
   lawful = p.lawful;
+  reads = p.reads;
+  sessions = p.sessions;
   written = p.written;
 }
 

@@ -6,7 +6,9 @@ use Rattle.ag_model.specs.declared.config.Config.{Config}
 use Rattle.ag_model.specs.declared.event.Event.{Event}
 use Rattle.ag_model.specs.declared.answer.Answer.{Answer}
 use Rattle.ag_rules.specs.Script.{IsConfig, IsScript}
-use Rattle.ag_rules.specs.Run.{Lawful}
+use Rattle.ag_rules.specs.Run.{Lawful, run}
+use Rattle.ag_rules.specs.ReadsRight.{ReadsRight}
+use Rattle.ag_rules.specs.SessionLaw.{SessionLaw}
 use Rattle.ag_transcript.specs.Transcript.{transcript}
 use Rattle.ag_group.specs.Scenario.{IsScenario}
 
@@ -19,6 +21,9 @@ pub record IsPlayed (told before now : Option (List ℕ)) : Type 0 where
   pub settings : IsConfig config
   pub in_range : IsScript config events
   pub lawful : Lawful config events answers
+  -- its reads are rows after prefixes of the log, and no session goes back
+  pub reads : ReadsRight (run config events)
+  pub sessions : SessionLaw (run config events)
   pub written : Appends before now (transcript config answers)
 
 -- the same of a run of the first events, of whose transcript a front was taken

@@ -13,6 +13,8 @@ ghost use Rattle.ag_group.specs.Played.{IsPlayed, IsPlayedInPart};
 use crate::events::{RunError, run_events};
 use crate::status::{Bound, ConfigKey, Status};
 use ag_model::config::{Config, Mode, ModeList};
+use ag_law_reads::reads_right;
+use ag_law_sessions::sessions_never_fall;
 use ag_outside::stream::{Sink, Source};
 use ag_outside::whole::{ReadError, read_all};
 use ag_script::fault::ScriptFault;
@@ -108,6 +110,8 @@ fn play_text<K: Sink>(alloc: Global, text: &[u8], sink: &mut K) -> Status
     ensures complete { (c : Config) (events : List Event) → IsScenario text.now c events →
         (HasRisen (K.faults sink.old) (K.faults sink.new) → ⊥) → (result ≡ Status.Done) ⊎ (result ≡ Status.NoMemory) }
 {
+    reads_right();
+    sessions_never_fall();
     let Some(script) = script_of(text) else {
         return Status::BadConfig {
             key: ConfigKey::Head,
