@@ -12,9 +12,9 @@ ghost use Rattle.ag_group.specs.Played.{IsPlayed, IsPlayedInPart};
 
 use crate::events::{RunError, run_events};
 use crate::status::{Bound, ConfigKey, Status};
-use ag_model::config::{Config, Mode, ModeList};
 use ag_law_reads::reads_right;
 use ag_law_sessions::sessions_never_fall;
+use ag_model::config::{Config, Mode, ModeList};
 use ag_outside::stream::{Sink, Source};
 use ag_outside::whole::{ReadError, read_all};
 use ag_script::fault::ScriptFault;

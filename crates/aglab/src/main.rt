@@ -4,9 +4,8 @@
 use ag_group::run::run;
 use ag_group::status::Status;
 use ag_outside::adapters::{ReadSource, WriteSink};
-use std::env;
-use std::io;
 use std::process::ExitCode;
+use std::{env, io};
 
 fn main(rt: HostRuntime) -> io::Result<ExitCode> {
     let mut words = Vec::new(rt.alloc());
