@@ -1,1 +1,2 @@
 pub mod PageSets
+pub mod Numbers

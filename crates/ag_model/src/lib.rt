@@ -4,6 +4,7 @@
 pub mod answer;
 pub mod config;
 pub mod event;
+pub mod laws;
 pub mod list;
 pub mod message;
 pub mod page_set;
