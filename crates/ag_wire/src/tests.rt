@@ -34,6 +34,7 @@ fn fault(rt: &HostRuntime, b: &[u8]) -> Option<WireFault> {
 
 #[test]
 fn messages_are_read_and_written(rt: HostRuntime) -> Result<(), Fail> {
+    laws::spellings();
     let kinds = [
         HELLO.as_slice(),
         RESUME.as_slice(),
