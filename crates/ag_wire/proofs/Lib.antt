@@ -1,0 +1,5 @@
+pub mod Appended
+pub mod Parts
+pub mod Payload
+pub mod Loop
+pub mod Messages

@@ -1,0 +1,14 @@
+//! Messages as bytes.
+#![tactic(auto)]
+
+mod decoding;
+mod encoding;
+mod fault;
+mod fields;
+pub mod laws;
+#[cfg(test)]
+mod tests;
+
+pub use decoding::decode;
+pub use encoding::encode;
+pub use fault::WireFault;
