@@ -3,3 +3,4 @@ pub mod Parts
 pub mod Payload
 pub mod Loop
 pub mod Messages
+pub mod Sizes

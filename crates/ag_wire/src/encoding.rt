@@ -150,12 +150,27 @@ fn append(m: &Message, out: &mut Vec<u8>) -> Result<(), NoMemory>
     fields(&m.body, out)
 }
 
+/// How many bytes a message takes.
+fn message_size(m: &Message) -> usize
+    requires { HasSpelling m.now }
+    ensures { result ≡ length (spelling m.now) }
+{
+    match &m.body {
+        Body::Hello { starts, .. } => 33 + 16 * starts.len(),
+        Body::Resume { .. } => 37,
+        Body::Block(block) => 27 + payload_size(block.records.as_slice()),
+        Body::Ack { .. } => 25,
+        _ => unreachable!(),
+    }
+}
+
 /// Appends the bytes of a message. Where memory is refused nothing is appended.
 pub fn encode(m: &Message, out: &mut Vec<u8>) -> Result<(), NoMemory>
     requires { HasSpelling m.now }
     ensures ok { OnOk result (out.new.items ≡ out.old.items ++ spelling m.now) }
     ensures err { OnErr result (out.new.items ≡ out.old.items) }
 {
+    out.reserve(message_size(m))?;
     let start = out.len();
     let result = append(m, out);
     if result.is_err() {

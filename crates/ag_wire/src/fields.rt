@@ -69,11 +69,12 @@ fn start_of(last: Option<TermStart>, b: &[u8]) -> Result<(TermStart, &[u8]), Wir
     Ok((TermStart { term, lsn }, rest))
 }
 
-/// So many term starts. The count is not trusted: memory is taken start by start.
+/// So many term starts. The count is not trusted: no more memory is taken than for the bytes that are there.
 pub(crate) fn starts_of(alloc: Global, count: u32, b: &[u8]) -> Result<(TermList, &[u8]), WireFault>
     ensures { Gives (λ x. (x.0, x.1.now)) result (starts_at None count b.now) }
 {
-    let mut starts = Vec::new(alloc);
+    let room = (count as usize).min(b.len() / 16);
+    let mut starts = Vec::with_capacity(alloc, room)?;
     let mut last = None;
     let mut rest = b;
     for _ in 0..count {

@@ -174,3 +174,94 @@ fn faults(rt: HostRuntime) -> Result<(), Fail> {
     }
     Ok(())
 }
+
+/// The number in the bytes from one place up to another one.
+fn number(b: &[u8], from: usize, to: usize) -> u64 {
+    let mut total: u64 = 0;
+    for byte in b.get(from..to).unwrap_or(&[]) {
+        total = total.wrapping_mul(256).wrapping_add(u64::from(*byte));
+    }
+    total
+}
+
+/// What is wrong where a message of another kind is read.
+fn other_kind(b: &[u8], to: u64) -> WireFault {
+    match (to, b.len()) {
+        (1..=3, 25) => WireFault::Short,
+        (3, 65) | (3, 37) => WireFault::BadLength,
+        (1..=4, _) => WireFault::Extra,
+        _ => WireFault::BadKind,
+    }
+}
+
+/// What is wrong with a Hello that has two starts.
+fn hello_fault(b: &[u8]) -> Option<WireFault> {
+    let count = number(b, 29, 33);
+    let rises = number(b, 33, 41) < number(b, 49, 57) && number(b, 41, 49) < number(b, 57, 65);
+    if count < 2 {
+        return Some(WireFault::Extra);
+    }
+    if !rises {
+        return Some(WireFault::BadOrder);
+    }
+    if count > 2 {
+        return Some(WireFault::Short);
+    }
+    None
+}
+
+/// What is wrong with a block that has 29 bytes of records.
+fn block_fault(rt: &HostRuntime, b: &[u8]) -> Option<WireFault> {
+    let len = number(b, 25, 27) as usize;
+    if len < 1 || len > 15_488 {
+        return Some(WireFault::BadLength);
+    }
+    if len > 29 {
+        return Some(WireFault::Short);
+    }
+    let records = b.get(27..27 + len).unwrap_or(&[]);
+    if ag_record::decode_all(rt.alloc(), records).is_err() {
+        return Some(WireFault::BadRecord);
+    }
+    if len < 29 {
+        return Some(WireFault::Extra);
+    }
+    None
+}
+
+/// The fault of a message of which one byte was changed.
+fn fault_of_changed(rt: &HostRuntime, b: &[u8], at: usize) -> Option<WireFault> {
+    match (at, b.len()) {
+        (0, _) => Some(other_kind(b, number(b, 0, 1))),
+        (_, 65) => hello_fault(b),
+        (_, 56) => block_fault(rt, b),
+        _ => None,
+    }
+}
+
+#[test]
+fn each_byte_changed_to_each_other_one(rt: HostRuntime) -> Result<(), Fail> {
+    let kinds = [
+        HELLO.as_slice(),
+        RESUME.as_slice(),
+        BLOCK.as_slice(),
+        ACK.as_slice(),
+    ];
+    for b in kinds {
+        for at in 0..b.len() {
+            for to in 0..=255 {
+                let mut bytes = Vec::from_slice(rt.alloc(), b)?;
+                if let Some(byte) = bytes.get_mut(at) {
+                    *byte = to;
+                }
+                let want = if bytes.as_slice() == b {
+                    None
+                } else {
+                    fault_of_changed(&rt, &bytes, at)
+                };
+                assert_eq!(rt; fault(&rt, &bytes), want, "byte {at} of {b:?} is {to}");
+            }
+        }
+    }
+    Ok(())
+}

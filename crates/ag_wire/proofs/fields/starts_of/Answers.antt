@@ -6,7 +6,7 @@ use Rattle.ag_wire.proofs.fields.starts_of.Goals as goal
 
 pub returns-in_err-start : goal.returns-in_err-start
 returns-in_err-start c =
-    let p = err_from_is_err_and c.from_residual.result c.from_residual.ensures.1 in
+    let p = err_from_is_err_and c.from_residual-in_err-start.result c.from_residual-in_err-start.ensures.1 in
     rw (p.1, p.2) (ends c.in_err-start.field-0.0 c.loop.starts.items c.loop.last c.args.count c.loop.counter c.loop.rest.now (starts_at None c.args.count c.args.b.now) c.loop-test.true c.in_err-start.ensures c.loop.invariant)
 
 pub loop-preserved : goal.loop-preserved
