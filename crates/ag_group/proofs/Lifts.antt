@@ -32,7 +32,7 @@ use Rattle.std.specs.List.{AllByRecursion}
 use Rattle.ag_model.specs.declared.answer.Answer.TheVariants.{Known}
 use Rattle.ag_rules.specs.Replica.{peer, with_peer}
 use Rattle.ag_rules.specs.AckMessage.{ack_message_part, checks_of_ack_message, known_peer}
-use Rattle.ag_rules.specs.Built.{IsBuiltBody}
+use Rattle.ag_built.specs.Built.{IsBuiltBody}
 use Rattle.ag_rules.specs.Next.{at_session, with_token, token_after, token, session_of}
 use Rattle.ag_node.specs.declared.site.Site.{Site}
 use Rattle.ag_node.specs.Sites.{here_at}

@@ -39,7 +39,7 @@ use Rattle.ag_rules.specs.BlockMessage.{block_part, cases_of_block, acks}
 use Rattle.ag_rules.specs.AckMessage.{ack_message_part, checks_of_ack_message, known_peer}
 use Rattle.ag_rules.specs.DeliverEvent.{message_part, arrives, taken, leaves, refusal_leaves, plan_of_deliver, plan_of_message}
 use Rattle.ag_rules.specs.Next.{named, apart, at_session, token, token_after, session_of, with_token, plan_of, done}
-use Rattle.ag_rules.specs.Built.{IsBuilt, IsBuiltBody}
+use Rattle.ag_built.specs.Built.{IsBuilt, IsBuiltBody}
 use Rattle.ag_group.specs.Refusals.{leaves_node, leaves_message, leaves_group, IsLeft}
 
 -- where a part is refused so, it leaves its node and sends nothing

@@ -5,7 +5,7 @@ use Rattle.ag_model.specs.declared.answer.Answer.{Answer}
 use Rattle.ag_rules.specs.Group.{Group, replica, with_replica, link}
 use Rattle.ag_rules.specs.Plan.{Part, here}
 use Rattle.ag_rules.specs.DeliverEvent.{message_part}
-use Rattle.ag_rules.specs.Built.{IsBuiltMessage}
+use Rattle.ag_built.specs.Built.{IsBuiltMessage}
 use Rattle.ag_node.specs.Out.{posting_of}
 
 -- the node did this part, of which these are the answer and the reply

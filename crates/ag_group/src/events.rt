@@ -2,7 +2,7 @@
 ghost use Rattle.std.specs.Prelude.{◌≡◌, ◌≤◌, IsErrOf, OnOk, IfOk};
 ghost use Rattle.ag_outside.specs.Counts.{HasRisen};
 ghost use Rattle.ag_rules.specs.Script.{IsConfig, IsScript};
-ghost use Rattle.ag_rules.specs.Built.{AreBuilt};
+ghost use Rattle.ag_built.specs.Built.{AreBuilt};
 ghost use Rattle.ag_transcript.specs.Transcript.{header_text, line};
 ghost use Rattle.ag_transcript.specs.Answers.{answer_text};
 ghost use Rattle.ag_group.specs.Ran.{HasRun, HasRunInPart};

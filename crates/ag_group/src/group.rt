@@ -11,7 +11,7 @@ ghost use Rattle.ag_rules.specs.DeliverEvent.{plan_of_deliver, message_part, lea
 ghost use Rattle.ag_rules.specs.Next.{named, apart, at_session, token, session_of, token_after};
 ghost use Rattle.ag_rules.specs.Checks.{token_or_none};
 ghost use Rattle.ag_rules.specs.Script.{IsConfig, IsEvent, IsWho};
-ghost use Rattle.ag_rules.specs.Built.{IsBuilt, IsBuiltMessage};
+ghost use Rattle.ag_built.specs.Built.{IsBuilt, IsBuiltMessage};
 ghost use Rattle.ag_rules.specs.Allowed.{IsAllowed, next};
 ghost use Rattle.ag_model.specs.declared.answer.Refusal.{Refusal};
 ghost use Rattle.ag_model.specs.declared.message.Message.{Message};

@@ -1,6 +1,6 @@
 //! The messages in flight.
 ghost use Rattle.std.specs.Prelude.{◌≡◌, ◌<◌, ◌≤◌, ◌+◌, ◌-◌, ◌++◌, ◌∷◌, [], length, take, drop, set, get_or, slice_get, Some, None, MatchOption, IfSome, IfOk, OnOk, nat_le, replicate};
-ghost use Rattle.ag_rules.specs.Built.{IsBuiltMessage};
+ghost use Rattle.ag_built.specs.Built.{IsBuiltMessage};
 
 use ag_model::message::Message;
 use ag_model::value::NoMemory;
@@ -21,7 +21,7 @@ impl Model for Link {
     ghost use Rattle.std.specs.Prelude.{List};
     ghost use Rattle.std.specs.List.{AllByRecursion};
     ghost use Rattle.ag_model.specs.declared.message.Message.{Message};
-    ghost use Rattle.ag_rules.specs.Built.{IsBuiltMessage};
+    ghost use Rattle.ag_built.specs.Built.{IsBuiltMessage};
 
     ghost Value = { List Message };
 

@@ -43,7 +43,6 @@ pub mod Failover
 pub mod FinishEvent
 pub mod Next
 pub mod Script
-pub mod Built
 pub mod Allowed
 pub mod Run
 pub mod TermLog

@@ -8,7 +8,7 @@ use Rattle.ag_model.specs.declared.event.Pair.{Pair}
 use Rattle.ag_model.specs.declared.event.Event.{Event}
 use Rattle.ag_model.specs.declared.event.Event.TheVariants.{Begin, Get, Put, Del, Commit, Rollback, Set, Trim, Harden, Ack, Send, Deliver, Repeat, Lose, Apply, Raise, Redo, Read, Snap, View, Close, Report, Flush, Crash, Start, Spoil, Unread, Ask, Suspects, Page, Sectors, Status, Cut, Mend, Join, Resume, Sync, Timeout, Planned, Auto, Force, Finish}
 use Rattle.ag_rules.specs.Script.{IsWho, IsEvent, IsScript}
-use Rattle.ag_rules.specs.Built.{AreBuilt}
+use Rattle.ag_built.specs.Built.{AreBuilt}
 use Rattle.ag_script.specs.Words.{Word, Name, Node, Other, Number, Bytes, Mask, Spells, SpellsAll, HasPairs, IsValue, words_of, pair_words, suffix_words}
 use Rattle.ag_script.specs.Lines.{words, IsLine, AreLines, IsScriptText}
 

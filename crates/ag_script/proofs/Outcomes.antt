@@ -8,7 +8,7 @@ use Rattle.std.proofs.lemmas.Bool.{cases_lt}
 use Rattle.std.proofs.lemmas.List.{length-append, nil_from_length, append-nil}
 use Rattle.ag_model.specs.declared.config.Config.{Config}
 use Rattle.ag_model.specs.declared.event.Event.{Event}
-use Rattle.ag_rules.specs.Built.{most_events}
+use Rattle.ag_built.specs.Built.{most_events}
 use Rattle.ag_script.specs.Lines.{words, IsLine, IsSkipped, IsBad, AreLines, IsScriptText, IsFirstBad, IsTooMany}
 use Rattle.ag_script.specs.Named.{event_at, transaction_shapes, log_shapes, look_shapes, disk_shapes, member_shapes}
 use Rattle.ag_script.proofs.LineAgain.{line_again, one_said}

@@ -5,7 +5,7 @@ use Rattle.std.specs.List.{onto_first}
 use Rattle.std.proofs.lemmas.List.{length-append}
 use Rattle.ag_model.specs.declared.config.Config.{Config}
 use Rattle.ag_model.specs.declared.event.Event.{Event}
-use Rattle.ag_rules.specs.Built.{IsBuilt, most_events}
+use Rattle.ag_built.specs.Built.{IsBuilt, most_events}
 use Rattle.ag_script.specs.Named.{event_at}
 use Rattle.ag_script.specs.Lines.{words, IsLine, IsSkipped, IsBad, AreLines, parts, IsFirstBad, IsTooMany}
 use Rattle.ag_script.specs.declared.script.Line.{Line}

@@ -3,7 +3,7 @@ use Rattle.std.specs.Prelude.{◌≡◌, ◌≢◌, ℕ, ◌+◌, ◌≤◌, ◌
 use Rattle.std.specs.List.{slice_split}
 use Rattle.ag_model.specs.declared.config.Config.{Config}
 use Rattle.ag_model.specs.declared.event.Event.{Event}
-use Rattle.ag_rules.specs.Built.{IsBuilt, most_events}
+use Rattle.ag_built.specs.Built.{IsBuilt, most_events}
 use Rattle.ag_script.specs.Words.{Say}
 
 -- the words of a line, cut at each space

@@ -1,6 +1,6 @@
 //! Which events are built.
 ghost use Rattle.std.specs.Prelude.{◌↔◌, IsTrue};
-ghost use Rattle.ag_rules.specs.Built.{IsBuilt};
+ghost use Rattle.ag_built.specs.Built.{IsBuilt};
 
 use ag_model::event::{Event, Suffix, Who};
 

@@ -2,7 +2,7 @@
 ghost use Rattle.std.specs.Prelude.{◌≡◌, ℕ, ◌+◌, ◌<◌, ◌≤◌, ◌^◌, ◌⊎◌, length, IfOk, IsErrOf, IsTrue, ◌↔◌, Err, List, MatchResult};
 ghost use Rattle.ag_model.specs.declared.event.Event.{Event};
 ghost use Rattle.ag_rules.specs.Script.{IsConfig, IsScript};
-ghost use Rattle.ag_rules.specs.Built.{AreBuilt};
+ghost use Rattle.ag_built.specs.Built.{AreBuilt};
 ghost use Rattle.ag_script.specs.Lines.{IsSkipped, IsScriptText, IsFirstBad, IsTooMany};
 ghost use Rattle.ag_script.specs.LineKinds.{IsOfKind};
 

@@ -8,7 +8,7 @@ ghost use Rattle.ag_rules.specs.RedoEvent.{redo_part, redoes_touching};
 ghost use Rattle.ag_rules.specs.ReadEvent.{read_part, reads_at};
 ghost use Rattle.ag_rules.specs.Messages.{ack_message};
 ghost use Rattle.ag_rules.specs.BlockMessage.{block_part};
-ghost use Rattle.ag_rules.specs.Built.{IsBuiltMessage};
+ghost use Rattle.ag_built.specs.Built.{IsBuiltMessage};
 ghost use Rattle.ag_node.specs.Out.{posting_of};
 ghost use Rattle.ag_node.specs.Sites.{here_at};
 ghost use Rattle.ag_node.specs.Nodes.{IsRefusedBy};

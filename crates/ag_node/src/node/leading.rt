@@ -7,7 +7,7 @@ ghost use Rattle.ag_rules.specs.Redo.{due_pages};
 ghost use Rattle.ag_rules.specs.HardenEvent.{harden_part, hardens, hardened_one};
 ghost use Rattle.ag_rules.specs.SendEvent.{send_part, block_to_send, block_message, with_sent};
 ghost use Rattle.ag_rules.specs.AckMessage.{ack_message_part, known_peer};
-ghost use Rattle.ag_rules.specs.Built.{IsBuiltMessage};
+ghost use Rattle.ag_built.specs.Built.{IsBuiltMessage};
 ghost use Rattle.ag_node.specs.Out.{posting_of};
 ghost use Rattle.ag_node.specs.Sites.{here_at};
 ghost use Rattle.ag_node.specs.Nodes.{IsRefusedBy};

@@ -2,7 +2,7 @@ use Rattle.std.proofs.Common.{◌≡◌, ◌≢◌, ◌+◌, ◌-◌, ◌≤◌,
 use Rattle.std.specs.Prelude.{position}
 use Rattle.std.proofs.lemmas.List.{take_all, length-drop}
 use Rattle.ag_script.proofs.Cuts.{cut_some}
-use Rattle.ag_rules.specs.Built.{most_events}
+use Rattle.ag_built.specs.Built.{most_events}
 use Rattle.ag_script.specs.declared.script.Line.TheVariants.{Skipped, Says, Bad}
 use Rattle.ag_script.proofs.ScriptLemmas.{kind_is, SoFar-skipped, SoFar-event, bad_line, bad_end, too_many, not_empty}
 use Rattle.ag_script.proofs.script.read_lines.Goals as goal

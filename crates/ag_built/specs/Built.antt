@@ -2,30 +2,31 @@
 use Rattle.std.specs.Prelude.{◌≡◌, ◌<◌, ℕ, List, length}
 use Rattle.std.specs.List.{AllByRecursion}
 use Rattle.ag_model.specs.declared.event.Who.{Who}
-use Rattle.ag_model.specs.declared.event.Who.TheVariants.{Letter}
+use Rattle.ag_model.specs.declared.event.Who.TheVariants.{Letter, Primary}
 use Rattle.ag_model.specs.declared.event.Suffix.TheVariants.{Whole}
 use Rattle.ag_model.specs.declared.event.Event.{Event}
-use Rattle.ag_model.specs.declared.event.Event.TheVariants.{Set, Harden, Send, Deliver, Redo, Read}
+use Rattle.ag_model.specs.declared.event.Event.TheVariants.{Set, Harden, Send, Deliver, Repeat, Lose, Apply, Raise, Redo, Read}
 use Rattle.ag_model.specs.declared.message.Message.{Message}
 use Rattle.ag_model.specs.declared.message.Body.{Body}
 use Rattle.ag_model.specs.declared.message.Body.TheVariants.{Block, Ack}
 
--- the word of the first replica
-abbrev pub A : Who
-A = Letter 0
+-- a word that is the letter of a replica
+abbrev pub IsLetter : Who → Type 0
+IsLetter (Letter n) = Unit {0}
+IsLetter Primary = ⊥
 
--- the word of the second
-abbrev pub B : Who
-B = Letter 1
-
--- one row goes from A to B: `set A K V`, `harden A`, `send A B`, `deliver A B 1`, `redo B` and `read B S K`
+-- the events of whole transactions, of links and of redo, for replicas by their letters and without a suffix
 abbrev pub IsBuilt : Event → Type 0
-IsBuilt (Set w pairs suffix) = (w ≡ A) × (length pairs ≡ 1) × (suffix ≡ Whole)
-IsBuilt (Harden w suffix) = (w ≡ A) × (suffix ≡ Whole)
-IsBuilt (Send w v suffix) = (w ≡ A) × (v ≡ B) × (suffix ≡ Whole)
-IsBuilt (Deliver w v i suffix) = (w ≡ A) × (v ≡ B) × (i ≡ 1) × (suffix ≡ Whole)
-IsBuilt (Redo w suffix) = (w ≡ B) × (suffix ≡ Whole)
-IsBuilt (Read w session key suffix) = (w ≡ B) × (suffix ≡ Whole)
+IsBuilt (Set w pairs suffix) = IsLetter w × (suffix ≡ Whole)
+IsBuilt (Harden w suffix) = IsLetter w × (suffix ≡ Whole)
+IsBuilt (Send w v suffix) = IsLetter w × IsLetter v × (suffix ≡ Whole)
+IsBuilt (Deliver w v i suffix) = IsLetter w × IsLetter v × (suffix ≡ Whole)
+IsBuilt (Repeat w v i suffix) = IsLetter w × IsLetter v × (suffix ≡ Whole)
+IsBuilt (Lose w v i suffix) = IsLetter w × IsLetter v × (suffix ≡ Whole)
+IsBuilt (Apply w x suffix) = IsLetter w × (suffix ≡ Whole)
+IsBuilt (Raise w x suffix) = IsLetter w × (suffix ≡ Whole)
+IsBuilt (Redo w suffix) = IsLetter w × (suffix ≡ Whole)
+IsBuilt (Read w session key suffix) = IsLetter w × (suffix ≡ Whole)
 IsBuilt _ = ⊥
 
 -- all of these events are built
@@ -44,4 +45,4 @@ IsBuiltMessage message = IsBuiltBody message.body
 
 -- the most event lines that a scenario may have
 abbrev pub most_events : ℕ
-most_events = 80
+most_events = 200000

@@ -1,0 +1,2 @@
+//! Which event lines are built so far. Definitions alone.
+#![tactic(auto)]
