@@ -12,13 +12,15 @@ use Rattle.ag_rules.specs.Plan.{Part, Posting, Here, Check, Case, here, at_node,
 use Rattle.ag_rules.specs.Access.{access, cases_of_access}
 use Rattle.ag_model.specs.declared.answer.Answer.TheVariants.{Lsn}
 use Rattle.ag_model.specs.Rows.{page_of, rows}
-use Rattle.ag_rules.specs.Replica.{end, front, full_end, effective, records, page_value}
+use Rattle.ag_rules.specs.Replica.{end, front, full_end, effective, records, page_value, stripe}
 use Rattle.ag_rules.specs.Checks.{buffer_is_full}
 use Rattle.ag_rules.specs.BeginEvent.{checks_of_begin}
 use Rattle.ag_rules.specs.Redo.{due_pages, touched_up_to}
 use Rattle.ag_rules.specs.SetEvent.{set_part, pairs_pass, sets, records_of_set, checks_of_pair, with_set}
 use Rattle.ag_rules.specs.HardenEvent.{harden_part, hardens, hardened_one, checks_of_harden}
 use Rattle.ag_rules.specs.RedoEvent.{redo_part, redoes_touching, checks_of_redo}
+use Rattle.ag_rules.specs.ApplyEvent.{apply_part, applies_touching, checks_of_apply, next_of_stripe, touched_in_stripe}
+use Rattle.ag_rules.specs.RaiseEvent.{raise_part, raised, checks_of_raise}
 use Rattle.ag_rules.specs.ReadEvent.{read_part, reads_at, checks_of_read, row_answer, is_too_old}
 use Rattle.ag_model.specs.declared.message.Message.{Message}
 use Rattle.ag_model.specs.declared.message.Body.{Body}
@@ -29,7 +31,7 @@ use Rattle.ag_rules.specs.BlockMessage.{block_part}
 use Rattle.ag_rules.specs.DeliverEvent.{message_part, arrives, taken}
 use Rattle.std.specs.Prelude.{max}
 use Rattle.std.specs.List.{AllByRecursion}
-use Rattle.ag_model.specs.declared.answer.Answer.TheVariants.{Known}
+use Rattle.ag_model.specs.declared.answer.Answer.TheVariants.{Known, Raised}
 use Rattle.ag_rules.specs.Replica.{peer, with_peer}
 use Rattle.ag_rules.specs.AckMessage.{ack_message_part, checks_of_ack_message, known_peer}
 use Rattle.ag_built.specs.Built.{IsBuiltBody}
@@ -129,6 +131,22 @@ pub redo_free : AsksNoModes redo_part
 unfolding redo_part
 redo_free h r = refl
 
+pub apply_quiet : (x : ℕ) → IsQuiet (λ h r. apply_part h r x)
+unfolding apply_part
+apply_quiet x h r = unless_out (checks_of_apply h r x) r (applies_touching h.pages r x (next_of_stripe r x) (touched_in_stripe h.pages r x (next_of_stripe r x))) refl
+
+pub apply_free : (x : ℕ) → AsksNoModes (λ h r. apply_part h r x)
+unfolding apply_part
+apply_free x h r = refl
+
+pub raise_quiet : (x : ℕ) → IsQuiet (λ h r. raise_part h r x)
+unfolding raise_part
+raise_quiet x h r = unless_out (checks_of_raise h r x) r (at_once (Raised (stripe r x).applied) (raised r x)) refl
+
+pub raise_free : (x : ℕ) → AsksNoModes (λ h r. raise_part h r x)
+unfolding raise_part
+raise_free x h r = refl
+
 -- a read changes nothing at its node
 
 pub read_free : (t : Token) (key : ℕ) → AsksNoModes (λ h r. read_part h r t key)
@@ -183,11 +201,12 @@ message_free from full message built h r = ap (λ (x : Part). unless (is_down h 
     body_free (Ack hardened low) built = refl
     body_free _ built = absurd built
 
--- a message that is taken and a node that is changed, in either order
-pub after_delivery : (stays : Bool) (g : Group) (n m i : ℕ) (r : Replica) (out : List Posting) →
-    posted m out (if stays then with_replica g m r else taken (with_replica g m r) n m i) ≡ posted m out (with_replica (if stays then g else taken g n m i) m r)
-after_delivery true g n m i r out = refl
-after_delivery false g n m i r out = refl
+-- a message that is taken and a node that is changed, in either order; a repeated message isn't taken
+pub after_delivery : (repeats stays : Bool) (g : Group) (n m i : ℕ) (r : Replica) (out : List Posting) →
+    posted m out (if repeats then with_replica g m r else if stays then with_replica g m r else taken (with_replica g m r) n m i) ≡ posted m out (with_replica (if repeats then g else if stays then g else taken g n m i) m r)
+after_delivery true stays g n m i r out = refl
+after_delivery false true g n m i r out = refl
+after_delivery false false g n m i r out = refl
 
 pub untouched : (g : Group) (n : ℕ) → g ≡ with_replica g n (replica g n)
 untouched g n = λ i. record g { replicas = sym (set-get_or g.replicas n nobody) i }

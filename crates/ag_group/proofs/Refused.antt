@@ -17,12 +17,12 @@ use Rattle.ag_model.specs.declared.message.Body.TheVariants.{Block as BlockBody,
 use Rattle.ag_model.specs.declared.message.Block.{Block}
 use Rattle.ag_model.specs.declared.record.Record.{Record}
 use Rattle.ag_model.specs.declared.answer.Answer.{Answer}
-use Rattle.ag_model.specs.declared.answer.Answer.TheVariants.{No, Lsn, Sent, Known, Hardened}
+use Rattle.ag_model.specs.declared.answer.Answer.TheVariants.{No, Lsn, Sent, Known, Hardened, Raised, Lost}
 use Rattle.ag_model.specs.declared.answer.Refusal.{Refusal}
 use Rattle.ag_model.specs.declared.answer.Refusal.TheVariants.{Unreadable, Torn, NotNoted, Down, Nothing, Pending, NoMessage, Gap, LinkFull, LogFull}
 use Rattle.ag_model.specs.Cells.{has_lost}
 use Rattle.ag_model.specs.Rows.{page_of, rows}
-use Rattle.ag_rules.specs.Replica.{Replica, image, records, front, full_end, effective, page_value, end, peer, with_peer}
+use Rattle.ag_rules.specs.Replica.{Replica, stripe, image, records, front, full_end, effective, page_value, end, peer, with_peer}
 use Rattle.ag_rules.specs.Group.{Group, replica, nobody, with_replica, link, is_full}
 use Rattle.ag_rules.specs.Plan.{Part, Posting, Plan, Here, Check, Case, here, at_node, posted, unless, first_case, refused, at_once, sending, writing, each_synced, Block_write}
 use Rattle.ag_rules.specs.Access.{access, cases_of_access, notes, pended}
@@ -33,11 +33,13 @@ use Rattle.ag_rules.specs.Redo.{due_pages, touched_up_to}
 use Rattle.ag_rules.specs.SetEvent.{set_part, pairs_pass, sets, records_of_set, checks_of_pair, with_set}
 use Rattle.ag_rules.specs.HardenEvent.{harden_part, hardens, hardened_one, checks_of_harden}
 use Rattle.ag_rules.specs.RedoEvent.{redo_part, redoes_touching, checks_of_redo}
+use Rattle.ag_rules.specs.ApplyEvent.{apply_part, applies_touching, checks_of_apply, next_of_stripe, touched_in_stripe}
+use Rattle.ag_rules.specs.RaiseEvent.{raise_part, raised, checks_of_raise}
 use Rattle.ag_rules.specs.ReadEvent.{read_part, reads_at, checks_of_read, row_answer, is_too_old}
 use Rattle.ag_rules.specs.SendEvent.{send_part, sends, checks_of_send, block_to_send}
 use Rattle.ag_rules.specs.BlockMessage.{block_part, cases_of_block, acks}
 use Rattle.ag_rules.specs.AckMessage.{ack_message_part, checks_of_ack_message, known_peer}
-use Rattle.ag_rules.specs.DeliverEvent.{message_part, arrives, taken, leaves, refusal_leaves, plan_of_deliver, plan_of_message}
+use Rattle.ag_rules.specs.DeliverEvent.{message_part, arrives, taken, leaves, refusal_leaves, plan_of_deliver, plan_of_message, plan_of_lose, plan_of_loss}
 use Rattle.ag_rules.specs.Next.{named, apart, at_session, token, token_after, session_of, with_token, plan_of, done}
 use Rattle.ag_built.specs.Built.{IsBuilt, IsBuiltBody}
 use Rattle.ag_group.specs.Refusals.{leaves_node, leaves_message, leaves_group, IsLeft}
@@ -106,6 +108,14 @@ harden_stays h r = stays_unless leaves_node (checks_of_harden h r) r (hardens h.
 redo_stays : (h : Here) (r : Replica) → Stays leaves_node r (redo_part h r)
 unfolding redo_part
 redo_stays h r = stays_unless leaves_node (checks_of_redo h r) r (redoes_touching h.pages r (touched_up_to h.pages (end r) r)) (λ why e t. absurd cc)
+
+apply_stays : (h : Here) (r : Replica) (x : ℕ) → Stays leaves_node r (apply_part h r x)
+unfolding apply_part
+apply_stays h r x = stays_unless leaves_node (checks_of_apply h r x) r (applies_touching h.pages r x (next_of_stripe r x) (touched_in_stripe h.pages r x (next_of_stripe r x))) (λ why e t. absurd cc)
+
+raise_stays : (h : Here) (r : Replica) (x : ℕ) → Stays leaves_node r (raise_part h r x)
+unfolding raise_part
+raise_stays h r x = stays_unless leaves_node (checks_of_raise h r x) r (at_once (Raised (stripe r x).applied) (raised r x)) (λ why e t. absurd cc)
 
 row_told : (at : ℕ) (row : Row) (r : Replica) → Stays leaves_node r (at_once (row_answer at row) r)
 row_told at (Found value) r why e t = (refl, refl)
@@ -224,6 +234,12 @@ harden_left g n = node_stays leaves_node g n (harden_part (here g n) (replica g 
 pub redo_left : (g : Group) (n : ℕ) (why : Refusal) → (at_node g n (redo_part (here g n) (replica g n))).answer ≡ No why → leaves_node why ≡ true → (at_node g n (redo_part (here g n) (replica g n))).after ≡ g
 redo_left g n = node_stays leaves_node g n (redo_part (here g n) (replica g n)) (redo_stays (here g n) (replica g n))
 
+pub apply_left : (g : Group) (n x : ℕ) (why : Refusal) → (at_node g n (apply_part (here g n) (replica g n) x)).answer ≡ No why → leaves_node why ≡ true → (at_node g n (apply_part (here g n) (replica g n) x)).after ≡ g
+apply_left g n x = node_stays leaves_node g n (apply_part (here g n) (replica g n) x) (apply_stays (here g n) (replica g n) x)
+
+pub raise_left : (g : Group) (n x : ℕ) (why : Refusal) → (at_node g n (raise_part (here g n) (replica g n) x)).answer ≡ No why → leaves_node why ≡ true → (at_node g n (raise_part (here g n) (replica g n) x)).after ≡ g
+raise_left g n x = node_stays leaves_node g n (raise_part (here g n) (replica g n) x) (raise_stays (here g n) (replica g n) x)
+
 pub read_left : (g : Group) (n s key : ℕ) (why : Refusal) → (at_session g n s (read_part (here g n) (replica g n) (token g s) key)).answer ≡ No why → leaves_node why ≡ true → (at_session g n s (read_part (here g n) (replica g n) (token g s) key)).after ≡ g
 read_left g n s key = session_stays g n s (read_part (here g n) (replica g n) (token g s) key) (read_stays (here g n) (replica g n) (token g s) key)
 
@@ -234,22 +250,36 @@ send_left g n m why e t =
     (λ two q. node_stays leaves_node g n (send_part (here g n) (replica g n) m (is_full g n m)) (send_stays (here g n) (replica g n) m (is_full g n m)) why q t) e
 
 -- a delivery that is refused so: the message stays, and the node is as it was
-arrival_left : (g : Group) (n m i : ℕ) (message : Message) → IsBuiltBody message.body → (why : Refusal) → (message_part (here g m) n (replica g m) (is_full g m n) message).answer ≡ No why → leaves_message why ≡ true
-    → (plan_of_message g n m i false (Some message)).after ≡ g
-arrival_left g n m i message built why e t =
+arrival_left : (g : Group) (n m i : ℕ) (repeats : Bool) (message : Message) → IsBuiltBody message.body → (why : Refusal) → (message_part (here g m) n (replica g m) (is_full g m n) message).answer ≡ No why → leaves_message why ≡ true
+    → (plan_of_message g n m i repeats (Some message)).after ≡ g
+arrival_left g n m i repeats message built why e t =
     let r : Replica = replica g m in
     let part : Part = message_part (here g m) n r (is_full g m n) message in
     let both = body_stays (here g m) n r (is_full g m n) message.term message.body built in
     let stays : Stays leaves_message r part = stays_if leaves_message r (not r.up) (refused (Down m) r) (arrives (here g m) n r (is_full g m n) message.term message.body) (stays_excepted leaves_message r (refused (Down m) r) (Down m) refl refl) both.0 in
     let remains : Remains part = remains_if (not r.up) (refused (Down m) r) (arrives (here g m) n r (is_full g m n) message.term message.body) (remains_excepted (refused (Down m) r) (Down m) refl refl) both.1 in
     let stays_there : leaves part.answer ≡ true = ap leaves e ∙ remains why e t in
-    (λ j. posted m ((stays why e t).1 j) (with_replica (if stays_there j then g else taken g n m i) m ((stays why e t).0 j))) ∙ (λ j. record g { replicas = set-get_or g.replicas m nobody j })
-
-pub deliver_left : (g : Group) (n m i : ℕ) → ((message : Message) → (n == m) ≡ false → slice_get (link g n m) (i - 1) ≡ Some message → IsBuiltBody message.body) → (why : Refusal)
-    → (apart g n m (plan_of_deliver g n m i false)).answer ≡ No why → leaves_message why ≡ true → (apart g n m (plan_of_deliver g n m i false)).after ≡ g
-unfolding plan_of_deliver
-deliver_left g n m i built why e t = apart_stays g n m (plan_of_deliver g n m i false) why (λ two. by_found two (slice_get (link g n m) (i - 1)) refl) e
+    (λ j. posted m ((stays why e t).1 j) (with_replica (if repeats then g else if stays_there j then g else taken g n m i) m ((stays why e t).0 j)))
+    ∙ (λ j. with_replica (left_in repeats g j) m (replica g m)) ∙ (λ j. record g { replicas = set-get_or g.replicas m nobody j })
   where
-    by_found : (n == m) ≡ false → (found : Option Message) → slice_get (link g n m) (i - 1) ≡ found → (plan_of_message g n m i false found).answer ≡ No why → (plan_of_message g n m i false found).after ≡ g
+    left_in : (b : Bool) (h : Group) → (if b then h else h) ≡ h
+    left_in true h = refl
+    left_in false h = refl
+
+pub deliver_left : (g : Group) (n m i : ℕ) (repeats : Bool) → ((message : Message) → (n == m) ≡ false → slice_get (link g n m) (i - 1) ≡ Some message → IsBuiltBody message.body) → (why : Refusal)
+    → (apart g n m (plan_of_deliver g n m i repeats)).answer ≡ No why → leaves_message why ≡ true → (apart g n m (plan_of_deliver g n m i repeats)).after ≡ g
+unfolding plan_of_deliver
+deliver_left g n m i repeats built why e t = apart_stays g n m (plan_of_deliver g n m i repeats) why (λ two. by_found two (slice_get (link g n m) (i - 1)) refl) e
+  where
+    by_found : (n == m) ≡ false → (found : Option Message) → slice_get (link g n m) (i - 1) ≡ found → (plan_of_message g n m i repeats found).answer ≡ No why → (plan_of_message g n m i repeats found).after ≡ g
     by_found two None is q = λ j. record g { replicas = set-get_or g.replicas m nobody j }
-    by_found two (Some message) is q = arrival_left g n m i message (built message two is) why q t
+    by_found two (Some message) is q = arrival_left g n m i repeats message (built message two is) why q t
+
+-- a loss that is refused
+pub lose_left : (g : Group) (n m i : ℕ) (why : Refusal) → (apart g n m (plan_of_lose g n m i)).answer ≡ No why → leaves_node why ≡ true → (apart g n m (plan_of_lose g n m i)).after ≡ g
+unfolding plan_of_lose
+lose_left g n m i why e t = apart_stays g n m (plan_of_lose g n m i) why (λ two. by_found (slice_get (link g n m) (i - 1))) e
+  where
+    by_found : (found : Option Message) → (plan_of_loss g n m i found).answer ≡ No why → (plan_of_loss g n m i found).after ≡ g
+    by_found None q = λ j. record g { replicas = set-get_or g.replicas m nobody j }
+    by_found (Some message) q = absurd cc

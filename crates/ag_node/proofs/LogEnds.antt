@@ -1,6 +1,7 @@
 -- The block ends of a log in memory, and the sectors of its blocks.
-use Rattle.std.proofs.Common.{◌≡◌, ◌≢◌, ℕ, zero, suc, ◌+◌, ◌-◌, ◌<◌, ◌≤◌, List, [], ◌∷◌, ◌++◌, length, get_or, drop, Bool, true, false, cond, inl, inr, ◌⊎◌, refl, sym, ap, ◌∙◌, arith, eqb-true, add_assoc, zero-add}
-use Rattle.std.specs.Prelude.{IfSome, Option, Some, None, Ok, Err, if◌then◌else◌, ◌==◌}
+use Rattle.std.proofs.Common.{◌≡◌, ◌≢◌, ℕ, zero, suc, ◌+◌, ◌-◌, ◌<◌, ◌≤◌, List, [], ◌∷◌, ◌++◌, length, get_or, drop, Bool, true, false, cond, inl, inr, ◌⊎◌, refl, sym, ap, ◌∙◌, subst, arith, eqb-true, add_assoc, zero-add, le-ltb, lt-ltb}
+use Rattle.std.proofs.lemmas.Bool.{ltb-true}
+use Rattle.std.specs.Prelude.{nat_lt, IfSome, Option, Some, None, Ok, Err, if◌then◌else◌, ◌==◌}
 use Rattle.std.specs.List.{slice_get, HoldsAt}
 use Rattle.std.specs.Option.{MatchOption, option_copied}
 use Rattle.std.specs.Borrow.{Bor}
@@ -11,7 +12,7 @@ use Rattle.std.proofs.lemmas.List.Sorted.{searched}
 use Rattle.std.proofs.lemmas.List.{take-append-le, drop-append-le, length-drop}
 use Rattle.std.proofs.Math.Seq.{take-length}
 use Rattle.ag_model.specs.declared.record.Record.{Record}
-use Rattle.ag_model.specs.Blocks.{end_of_block}
+use Rattle.ag_model.specs.Blocks.{end_of_block, next_end}
 use Rattle.ag_model.specs.Proper.{RisesFrom}
 use Rattle.ag_model.specs.Sizes.{block_sectors, sectors_to}
 use Rattle.ag_node.specs.LogKept.{RisesTo}
@@ -136,3 +137,60 @@ block_bounds low high first (e ∷ es) last p h =
 pub bounded : (found : Option ℕ) (low high first : ℕ) (es : List ℕ) → RisesTo low high es → found ≡ end_of_block low first es → IfSome found (λ last. (1 ≤ first) × (first ≤ last) × (last ≤ high))
 bounded None low high first es p h = tt
 bounded (Some last) low high first es p h = block_bounds low high first es last p (sym h)
+
+-- the first end after an LSN, where those before it aren't above
+next_at : (lsn i : ℕ) (es : List ℕ) → i < length es → ((k : ℕ) → k < i → get_or es k 0 ≤ lsn) → lsn < get_or es i 0 → next_end lsn es ≡ get_or es i 0
+next_at lsn i [] h low high = absurd (omega (arith, h))
+next_at lsn zero (e ∷ es) h low high = rw (lt-ltb lsn e high) refl
+next_at lsn (suc i) (e ∷ es) h low high = rw (le-ltb lsn e (low 0 (omega arith))) (next_at lsn i es (omega (arith, h)) (λ k l. low (suc k) (omega (arith, l))) high)
+
+-- no end is above it
+next_none : (lsn : ℕ) (es : List ℕ) → ((k : ℕ) → k < length es → get_or es k 0 ≤ lsn) → next_end lsn es ≡ lsn
+next_none lsn [] low = refl
+next_none lsn (e ∷ es) low = rw (le-ltb lsn e (low 0 (omega arith))) (next_none lsn es (λ k l. low (suc k) (omega (arith, l))))
+
+-- the place of the first end above an LSN, as a search tells it
+abbrev pub IsAfter : ℕ → List ℕ → ℕ → Type 0
+IsAfter lsn es i = ((k : ℕ) → k < i → k < length es → get_or es k 0 ≤ lsn) × ((k : ℕ) → i ≤ k → k < length es → lsn < get_or es k 0)
+
+pub after_found : (es : List ℕ) (lsn place : ℕ) → RisesFrom 0 es → IsBinarySearchResult (λ y. nat_cmp y lsn) es (Ok place) → IsAfter lsn es (place + 1)
+after_found es lsn place p s =
+    let f = searched es lsn (Ok place) s (λ i j. in_order 0 i j es p) in
+    ((λ k l h. omega (arith, in_order 0 k place es p (omega (arith, l)) f.0, f.1)), (λ k l h. omega (arith, strictly 0 place k es p (omega (arith, l)) h, f.1)))
+  where
+    strictly : (low i j : ℕ) (es : List ℕ) → RisesFrom low es → i < j → j < length es → get_or es i 0 < get_or es j 0
+    strictly low i j [] p o h = absurd (omega (arith, h))
+    strictly low zero zero (e ∷ es) p o h = absurd (omega (arith, o))
+    strictly low zero (suc j) (e ∷ es) p o h = above e j es p.1 (omega (arith, h))
+    strictly low (suc i) zero (e ∷ es) p o h = absurd (omega (arith, o))
+    strictly low (suc i) (suc j) (e ∷ es) p o h = strictly e i j es p.1 (omega (arith, o)) (omega (arith, h))
+
+pub after_missed : (es : List ℕ) (lsn place : ℕ) → RisesFrom 0 es → IsBinarySearchResult (λ y. nat_cmp y lsn) es (Err place) → IsAfter lsn es place
+after_missed es lsn place p s =
+    let f = searched es lsn (Err place) s (λ i j. in_order 0 i j es p) in
+    ((λ k l h. omega (arith, f.1 k l)), (λ k l h. f.2 k l h))
+
+pub end_there : (es : List ℕ) (lsn place end : ℕ) → IsAfter lsn es place → place < length es → get_or es place 0 ≡ end → end ≡ next_end lsn es
+end_there es lsn place end a h is = sym is ∙ sym (next_at lsn place es h (λ k l. a.0 k l (omega (arith, l, h))) (a.1 place (omega arith) h))
+
+pub end_nowhere : (es : List ℕ) (lsn place : ℕ) → IsAfter lsn es place → length es ≤ place → lsn ≡ next_end lsn es
+end_nowhere es lsn place a h = sym (next_none lsn es (λ k l. a.0 k (omega (arith, l, h)) l))
+
+-- the next end isn't before the LSN, and not past the last
+pub next_least : (lsn : ℕ) (es : List ℕ) → lsn ≤ next_end lsn es
+next_least lsn [] = omega arith
+next_least lsn (e ∷ es) = by_bool (nat_lt lsn e) (λ v. lsn ≤ (if v then e else next_end lsn es)) (λ t. omega (arith, ltb-true lsn e t)) (λ _. next_least lsn es)
+
+pub next_within : (low high lsn : ℕ) (es : List ℕ) → RisesTo low high es → lsn ≤ high → next_end lsn es ≤ high
+next_within low high lsn [] p h = h
+next_within low high lsn (e ∷ es) p h = by_bool (nat_lt lsn e) (λ v. (if v then e else next_end lsn es) ≤ high) (λ _. rises_le e high es p.1) (λ _. next_within e high lsn es p.1 h)
+
+-- what a look at that place finds
+pub end_some : (es : List ℕ) (lsn place : ℕ) (r : Option (Bor ℕ)) (x : Bor ℕ) → IsAfter lsn es place → MatchOption r (length es ≤ place) (λ y. (place < length es) × HoldsAt (λ z. y.now ≡ z) es place) → r ≡ Some x → x.now ≡ next_end lsn es
+end_some es lsn place r x a h is =
+    let t = subst (λ (o : Option (Bor ℕ)). MatchOption o (length es ≤ place) (λ y. (place < length es) × HoldsAt (λ z. y.now ≡ z) es place)) is h in
+    end_there es lsn place x.now a t.0 (sym (t.1 0))
+
+pub end_none : (es : List ℕ) (lsn place : ℕ) (r : Option (Bor ℕ)) → IsAfter lsn es place → MatchOption r (length es ≤ place) (λ y. (place < length es) × HoldsAt (λ z. y.now ≡ z) es place) → r ≡ None → lsn ≡ next_end lsn es
+end_none es lsn place r a h is =
+    end_nowhere es lsn place a (subst (λ (o : Option (Bor ℕ)). MatchOption o (length es ≤ place) (λ y. (place < length es) × HoldsAt (λ z. y.now ≡ z) es place)) is h)

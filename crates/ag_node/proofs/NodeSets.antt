@@ -12,7 +12,7 @@ use Rattle.ag_model.specs.declared.answer.Answer.TheVariants.{No, Lsn}
 use Rattle.ag_model.specs.declared.answer.Refusal.{Refusal}
 use Rattle.ag_model.specs.declared.answer.Refusal.TheVariants.{BufferFull}
 use Rattle.ag_model.specs.Sizes.{record_size, records_size, buffer_free}
-use Rattle.ag_rules.specs.Replica.{Replica, Peer, full_log, full_end}
+use Rattle.ag_rules.specs.Replica.{Replica, Peer, full_log, full_end, Stripe}
 use Rattle.ag_rules.specs.Plan.{Part, Here, refused, unless, at_once}
 use Rattle.ag_rules.specs.Checks.{buffer_is_full}
 use Rattle.ag_rules.specs.SetEvent.{pairs_pass, sets, records_of_set, with_set}
@@ -28,16 +28,16 @@ abbrev pub set_of : Here → Replica → List Pair → Part
 set_of h r pairs = pairs_pass h r (r.leading.last_txn + 1) [] pairs (sets r (records_of_set h.pages (r.leading.last_txn + 1) pairs))
 
 -- where a node knows the room on its pages, that decides
-pub set_by_room : (leads : Bool) (log : Log) (at : ℕ) (ds : List Bool) (buffer : List Record) (bytes txn synced : ℕ) (peers : List Peer) (used : List ℕ) (r : Replica) (h : Here) (pairs : List Pair)
-    → node_of leads log at ds (leading_of buffer txn synced peers) ≡ r → h.pages ≡ length r.pages → IsNode leads log at (length ds) buffer bytes txn used → r.leads ≡ true
-    → set_of h r pairs ≡ unless_some (first_full h.pages used [] pairs) (node_of leads log at ds (leading_of buffer txn synced peers)) (sets (node_of leads log at ds (leading_of buffer txn synced peers)) (records_of_set h.pages (txn + 1) pairs))
-set_by_room leads log at ds buffer bytes txn synced peers used r h pairs is p node leading =
-    let n : Replica = node_of leads log at ds (leading_of buffer txn synced peers) in
+pub set_by_room : (leads : Bool) (log : Log) (ss : List Stripe) (ds : List Bool) (buffer : List Record) (bytes txn synced : ℕ) (peers : List Peer) (used : List ℕ) (r : Replica) (h : Here) (pairs : List Pair)
+    → node_of leads log ss ds (leading_of buffer txn synced peers) ≡ r → h.pages ≡ length r.pages → IsNode leads log ss (length ds) buffer bytes txn used → r.leads ≡ true
+    → set_of h r pairs ≡ unless_some (first_full h.pages used [] pairs) (node_of leads log ss ds (leading_of buffer txn synced peers)) (sets (node_of leads log ss ds (leading_of buffer txn synced peers)) (records_of_set h.pages (txn + 1) pairs))
+set_by_room leads log ss ds buffer bytes txn synced peers used r h pairs is p node leading =
+    let n : Replica = node_of leads log ss ds (leading_of buffer txn synced peers) in
     let few : h.pages ≡ length ds = p ∙ ap (λ (x : Replica). length x.pages) (sym is) ∙ length-map ds page_of_flag in
     let leads_is : leads ≡ true = ap (λ (x : Replica). x.leads) is ∙ leading in
     let room : IsSetLog h.pages txn (log.records ++ buffer) used = subst (λ (x : ℕ). IsSetLog x txn (log.records ++ buffer) used) (sym few) (node.room leads_is) in
     (λ i. set_of h (sym is i) pairs)
-    ∙ pairs_pass_by_room h n used [] pairs (sets n (records_of_set h.pages (txn + 1) pairs)) (omega (arith, few, node.some_pages)) room (λ q part a b. access_is_free leads log at ds (leading_of buffer txn synced peers) q part)
+    ∙ pairs_pass_by_room h n used [] pairs (sets n (records_of_set h.pages (txn + 1) pairs)) (omega (arith, few, node.some_pages)) room (λ q part a b. access_is_free leads log ss ds (leading_of buffer txn synced peers) q part)
 
 -- a part that is told, of a replica that is told
 pub record Told (r : Replica) (part : Part) (answer : Answer) (after : Replica) : Type 0 where
@@ -66,15 +66,16 @@ set_done n r m part full new need free lsn is by e a b le l same =
     let at : lsn ≡ full_end n + length new = l ∙ ap (λ (x : Replica). full_end x + length new) (sym is) in
     record { answered = ap Lsn at ∙ ap (λ (x : Part). x.answer) (sym all); left = same ∙ ap (λ (x : Part). x.after) (sym all) }
 
-pub node_after_set : (leads : Bool) (log : Log) (at pages : ℕ) (buffer buffer' new : List Record) (bytes bytes' txn txn' : ℕ) (used used' : List ℕ) (pairs : List Pair)
-    → IsNode leads log at pages buffer bytes txn used → buffer' ≡ buffer ++ new → new ≡ records_of_set pages txn' pairs → txn' ≡ txn + 1 → bytes' ≡ bytes + records_size new
-    → used' ≡ used_after pages pairs used → All (λ b. b ≤ 8144) used' → IsNode leads log at pages buffer' bytes' txn' used'
-node_after_set leads log at pages buffer buffer' new bytes bytes' txn txn' used used' pairs h b is t c u small =
+pub node_after_set : (leads : Bool) (log : Log) (ss : List Stripe) (pages : ℕ) (buffer buffer' new : List Record) (bytes bytes' txn txn' : ℕ) (used used' : List ℕ) (pairs : List Pair)
+    → IsNode leads log ss pages buffer bytes txn used → buffer' ≡ buffer ++ new → new ≡ records_of_set pages txn' pairs → txn' ≡ txn + 1 → bytes' ≡ bytes + records_size new
+    → used' ≡ used_after pages pairs used → All (λ b. b ≤ 8144) used' → IsNode leads log ss pages buffer' bytes' txn' used'
+node_after_set leads log ss pages buffer buffer' new bytes bytes' txn txn' used used' pairs h b is t c u small =
     let grown : log.records ++ buffer' ≡ (log.records ++ buffer) ++ records_of_set pages (txn + 1) pairs
     = ap (λ (x : List Record). log.records ++ x) (b ∙ ap (λ (x : List Record). buffer ++ x) (is ∙ ap (λ (x : ℕ). records_of_set pages x pairs) t)) ∙ sym (append_assoc log.records buffer (records_of_set pages (txn + 1) pairs)) in
     record {
       some_pages = h.some_pages;
       few_pages = h.few_pages;
+      sixteen = h.sixteen;
       redone = h.redone;
       counted = c ∙ ap (λ (x : ℕ). x + records_size new) h.counted ∙ sym (sum_by-append record_size buffer new) ∙ ap records_size (sym b);
       room = λ e. subst (λ (x : ℕ). IsSetLog pages x (log.records ++ buffer') used') (sym t)

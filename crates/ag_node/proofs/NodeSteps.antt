@@ -1,8 +1,8 @@
 -- A node after each step, from its parts.
-use Rattle.std.proofs.Common.{◌≡◌, ℕ, ◌+◌, ◌-◌, ◌<◌, ◌≤◌, List, [], ◌∷◌, ◌++◌, length, take, drop, map, Bool, true, false, cond, refl, sym, ap, ◌∙◌, subst, arith, append_assoc, le-ltb, lt-ltb}
+use Rattle.std.proofs.Common.{◌≡◌, ℕ, zero, suc, ◌+◌, ◌-◌, ◌<◌, ◌≤◌, List, [], ◌∷◌, ◌++◌, length, take, drop, map, get_or, set, Bool, true, false, cond, refl, sym, ap, ◌∙◌, subst, arith, append_assoc, le-ltb, lt-ltb}
 use Rattle.std.specs.Prelude.{Option, Some, None, ◌==◌, if◌then◌else◌, nat_lt}
 use Rattle.std.specs.List.{All}
-use Rattle.std.proofs.lemmas.List.{length-map, length-append, append-nil, take_all, length-drop}
+use Rattle.std.proofs.lemmas.List.{length-map, length-append, length-set, get_or-replicate, append-nil}
 use Rattle.ag_model.specs.declared.record.Record.{Record}
 use Rattle.ag_model.specs.declared.record.Log.{Log}
 use Rattle.ag_model.specs.declared.value.Row.{Row}
@@ -10,127 +10,197 @@ use Rattle.ag_model.specs.declared.answer.Answer.{Answer}
 use Rattle.ag_model.specs.declared.answer.Answer.TheVariants.{No}
 use Rattle.ag_model.specs.declared.answer.Refusal.TheVariants.{TooOld}
 use Rattle.ag_model.specs.Sizes.{records_size}
-use Rattle.ag_model.specs.Blocks.{with_block, after_to}
-use Rattle.ag_model.specs.Rows.{rows, page_of}
+use Rattle.ag_model.specs.Blocks.{with_block, after_to, next_end}
+use Rattle.ag_model.specs.Rows.{rows, page_of, stripe_of}
 use Rattle.ag_model.specs.Page.{value}
-use Rattle.ag_rules.specs.Replica.{Replica, Peer, records, end, front, applied_of, page_value}
+use Rattle.ag_rules.specs.Replica.{Replica, Peer, Stripe, no_stripe, all_at, least, end, front}
 use Rattle.ag_rules.specs.Plan.{Part, Here, unless, at_once, refused}
 use Rattle.ag_rules.specs.Redo.{due_pages, touched_up_to}
 use Rattle.ag_rules.specs.HardenEvent.{hardens, hardened_one}
 use Rattle.ag_rules.specs.RedoEvent.{redoes_touching}
+use Rattle.ag_rules.specs.ApplyEvent.{applies_touching, next_of_stripe, touched_in_stripe}
 use Rattle.ag_rules.specs.ReadEvent.{reads_at, row_answer, is_too_old}
 use Rattle.ag_node.specs.View.{node_of, page_of_flag}
-use Rattle.ag_node.specs.Marked.{marked}
+use Rattle.ag_node.specs.Marked.{marked, marked_of, marked_to_end}
 use Rattle.ag_node.specs.Room.{IsSetLog}
-use Rattle.ag_node.specs.Nodes.{IsNode, leading_of}
-use Rattle.ag_node.proofs.Quiet.{hardens_is, redoes_is, access_is_free, stands}
+use Rattle.ag_node.specs.Nodes.{IsNode, IsWithin, leading_of}
+use Rattle.ag_node.proofs.Quiet.{hardens_is, redoes_is, applies_is, access_is_free}
 
 -- the pages of a node are its flags
-pub pages_are : (leads : Bool) (log : Log) (at : ℕ) (ds : List Bool) (buffer : List Record) (txn synced : ℕ) (peers : List Peer) (r : Replica) (pages : ℕ)
-    → node_of leads log at ds (leading_of buffer txn synced peers) ≡ r → pages ≡ length r.pages → pages ≡ length ds
-pages_are leads log at ds buffer txn synced peers r pages is p = p ∙ ap (λ (x : Replica). length x.pages) (sym is) ∙ length-map ds page_of_flag
+pub pages_are : (leads : Bool) (log : Log) (ss : List Stripe) (ds : List Bool) (buffer : List Record) (txn synced : ℕ) (peers : List Peer) (r : Replica) (pages : ℕ)
+    → node_of leads log ss ds (leading_of buffer txn synced peers) ≡ r → pages ≡ length r.pages → pages ≡ length ds
+pages_are leads log ss ds buffer txn synced peers r pages is p = p ∙ ap (λ (x : Replica). length x.pages) (sym is) ∙ length-map ds page_of_flag
 
--- the records after an LSN, to the end
-pub after_is : (xs : List Record) (a : ℕ) → take (length xs - a) (drop a xs) ≡ after_to a (length xs) xs
-after_is xs a = take_all (length xs - a) (drop a xs) (omega (arith, length-drop a xs)) ∙ sym (ap (drop a) (take_all (length xs) xs (omega arith)))
-
-pub node_hardened : (leads : Bool) (log log' : Log) (at at' : ℕ) (ds ds' : List Bool) (buffer buffer' : List Record) (txn synced : ℕ) (peers : List Peer) (r : Replica) (pages : ℕ)
-    → node_of leads log at ds (leading_of buffer txn synced peers) ≡ r → pages ≡ length r.pages
-    → log' ≡ with_block log buffer → at' ≡ length log.records + length buffer → ds' ≡ marked buffer ds → buffer' ≡ []
-    → node_of leads log' at' ds' (leading_of buffer' txn synced peers) ≡ (hardens pages r (due_pages pages (hardened_one pages r))).after
-node_hardened leads log log' at at' ds ds' buffer buffer' txn synced peers r pages is p l f d b =
-    let few : pages ≡ length ds = pages_are leads log at ds buffer txn synced peers r pages is p in
+pub node_hardened : (leads : Bool) (log log' : Log) (ss ss' : List Stripe) (ds ds' : List Bool) (buffer buffer' : List Record) (txn synced : ℕ) (peers : List Peer) (r : Replica) (pages : ℕ)
+    → node_of leads log ss ds (leading_of buffer txn synced peers) ≡ r → pages ≡ length r.pages
+    → log' ≡ with_block log buffer → ss' ≡ all_at (length log.records + length buffer) → ds' ≡ marked buffer ds → buffer' ≡ []
+    → node_of leads log' ss' ds' (leading_of buffer' txn synced peers) ≡ (hardens pages r (due_pages pages (hardened_one pages r))).after
+node_hardened leads log log' ss ss' ds ds' buffer buffer' txn synced peers r pages is p l f d b =
+    let few : pages ≡ length ds = pages_are leads log ss ds buffer txn synced peers r pages is p in
     (λ i. node_of leads (l i) (f i) (d i) (leading_of (b i) txn synced peers))
-    ∙ sym (ap (λ (x : Part). x.after) (hardens_is leads log at ds (leading_of buffer txn synced peers)))
+    ∙ sym (ap (λ (x : Part). x.after) (hardens_is leads log ss ds (leading_of buffer txn synced peers)))
     ∙ (λ i. (hardens (sym few i) (is i) (due_pages (sym few i) (hardened_one (sym few i) (is i)))).after)
 
-pub node_redone : (leads : Bool) (log : Log) (at at' : ℕ) (ds ds' : List Bool) (buffer : List Record) (txn synced : ℕ) (peers : List Peer) (r : Replica) (pages : ℕ)
-    → node_of leads log at ds (leading_of buffer txn synced peers) ≡ r → pages ≡ length r.pages
-    → at' ≡ length log.records → ds' ≡ marked (after_to at (length log.records) log.records) ds
-    → node_of leads log at' ds' (leading_of buffer txn synced peers) ≡ (redoes_touching pages r (touched_up_to pages (end r) r)).after
-node_redone leads log at at' ds ds' buffer txn synced peers r pages is p f d =
-    let few : pages ≡ length ds = pages_are leads log at ds buffer txn synced peers r pages is p in
+pub node_redone : (leads : Bool) (log : Log) (ss ss' : List Stripe) (ds ds' : List Bool) (buffer : List Record) (txn synced : ℕ) (peers : List Peer) (r : Replica) (pages : ℕ)
+    → node_of leads log ss ds (leading_of buffer txn synced peers) ≡ r → pages ≡ length r.pages
+    → ss' ≡ all_at (length log.records) → ds' ≡ marked_to_end ss log.records ds
+    → node_of leads log ss' ds' (leading_of buffer txn synced peers) ≡ (redoes_touching pages r (touched_up_to pages (end r) r)).after
+node_redone leads log ss ss' ds ds' buffer txn synced peers r pages is p f d =
+    let few : pages ≡ length ds = pages_are leads log ss ds buffer txn synced peers r pages is p in
     (λ i. node_of leads log (f i) (d i) (leading_of buffer txn synced peers))
-    ∙ sym (ap (λ (x : Part). x.after) (redoes_is leads log at ds (leading_of buffer txn synced peers)))
+    ∙ sym (ap (λ (x : Part). x.after) (redoes_is leads log ss ds (leading_of buffer txn synced peers)))
     ∙ (λ i. (redoes_touching (sym few i) (is i) (touched_up_to (sym few i) (end (is i)) (is i))).after)
 
+pub node_applied : (leads : Bool) (log : Log) (ss ss' : List Stripe) (ds ds' : List Bool) (buffer : List Record) (txn synced : ℕ) (peers : List Peer) (r : Replica) (pages x high : ℕ)
+    → node_of leads log ss ds (leading_of buffer txn synced peers) ≡ r → pages ≡ length r.pages → high ≡ next_end (get_or ss x no_stripe).applied log.ends
+    → ss' ≡ set ss x (record (get_or ss x no_stripe) { applied = high }) → ds' ≡ marked_of (Some x) (after_to (get_or ss x no_stripe).applied high log.records) ds
+    → node_of leads log ss' ds' (leading_of buffer txn synced peers) ≡ (applies_touching pages r x (next_of_stripe r x) (touched_in_stripe pages r x (next_of_stripe r x))).after
+node_applied leads log ss ss' ds ds' buffer txn synced peers r pages x high is p h f d =
+    let few : pages ≡ length ds = pages_are leads log ss ds buffer txn synced peers r pages is p in
+    (λ i. node_of leads log (f i) (d i) (leading_of buffer txn synced peers))
+    ∙ sym (ap (λ (y : Part). y.after) (applies_is leads log ss ds (leading_of buffer txn synced peers) x high))
+    ∙ (λ i. (let n = node_of leads log ss ds (leading_of buffer txn synced peers) in applies_touching (length ds) n x (h i) (touched_in_stripe (length ds) n x (h i))).after)
+    ∙ (λ i. (applies_touching (sym few i) (is i) x (next_of_stripe (is i) x) (touched_in_stripe (sym few i) (is i) x (next_of_stripe (is i) x))).after)
+
+-- stripes that change so that none stands past the end
+pub node_after_stripes : (leads : Bool) (log : Log) (ss ss' : List Stripe) (pages pages' : ℕ) (buffer : List Record) (bytes txn : ℕ) (used : List ℕ)
+    → IsNode leads log ss pages buffer bytes txn used → pages' ≡ pages → length ss' ≡ 16 → All (IsWithin (length log.records)) ss' → IsNode leads log ss' pages' buffer bytes txn used
+node_after_stripes leads log ss ss' pages pages' buffer bytes txn used h p sixteen redone =
+    subst (λ (x : ℕ). IsNode leads log ss' x buffer bytes txn used) (sym p)
+    (record {
+      some_pages = h.some_pages;
+      few_pages = h.few_pages;
+      sixteen = sixteen;
+      redone = redone;
+      counted = h.counted;
+      room = h.room;
+      small = h.small;
+    })
+
+-- all stripes at the end
+pub all_within : (end : ℕ) (ss : List Stripe) → ss ≡ all_at end → (length ss ≡ 16) × All (IsWithin end) ss
+all_within end ss is = subst (λ (x : List Stripe). (length x ≡ 16) × All (IsWithin end) x) (sym is) (refl, λ k d h. within k d h)
+  where
+    within : (k : ℕ) (d : Stripe) → k < 16 → IsWithin end (get_or (all_at end) k d)
+    within k d h = subst (IsWithin end) (sym (get_or-replicate 16 k (record { applied = end; published = end }) d h)) (omega arith, omega arith)
+
+-- what holds of the first and of each other one
+cons_all : {A : Type 0} (P : A → Type 0) (x : A) (xs : List A) → P x → All P xs → All P (x ∷ xs)
+cons_all P x xs p rest zero d h = p
+cons_all P x xs p rest (suc k) d h = rest k d (omega (arith, h))
+
+all_set : {A : Type 0} (P : A → Type 0) (xs : List A) (i : ℕ) (new : A) → All P xs → P new → All P (set xs i new)
+all_set P [] i new each p = each
+all_set P (x ∷ xs) zero new each p = cons_all P new xs p (λ k d h. each (suc k) d (omega (arith, h)))
+all_set P (x ∷ xs) (suc i) new each p = cons_all P x (set xs i new) (each 0 x (omega arith)) (all_set P xs i new (λ k d h. each (suc k) d (omega (arith, h))) p)
+
+-- one stripe that changes
+pub one_within : (end x : ℕ) (ss ss' : List Stripe) (new : Stripe) → length ss ≡ 16 → All (IsWithin end) ss → ss' ≡ set ss x new → IsWithin end new → (length ss' ≡ 16) × All (IsWithin end) ss'
+one_within end x ss ss' new sixteen redone is within = subst (λ (y : List Stripe). (length y ≡ 16) × All (IsWithin end) y) (sym is) (length-set ss x new ∙ sixteen, all_set (IsWithin end) ss x new redone within)
+
 -- what a node says of itself stays true where its log, its pages and its buffer are the same
-pub node_same : (leads : Bool) (log log' : Log) (at pages pages' : ℕ) (buffer buffer' : List Record) (bytes txn : ℕ) (used : List ℕ)
-    → IsNode leads log at pages buffer bytes txn used → log' ≡ log → pages' ≡ pages → buffer' ≡ buffer → IsNode leads log' at pages' buffer' bytes txn used
-node_same leads log log' at pages pages' buffer buffer' bytes txn used h l p b =
-    subst (λ (x : Log). IsNode leads x at pages' buffer' bytes txn used) (sym l)
-    (subst (λ (x : ℕ). IsNode leads log at x buffer' bytes txn used) (sym p)
-    (subst (λ (x : List Record). IsNode leads log at pages x bytes txn used) (sym b) h))
+pub node_same : (leads : Bool) (log log' : Log) (ss : List Stripe) (pages pages' : ℕ) (buffer buffer' : List Record) (bytes txn : ℕ) (used : List ℕ)
+    → IsNode leads log ss pages buffer bytes txn used → log' ≡ log → pages' ≡ pages → buffer' ≡ buffer → IsNode leads log' ss pages' buffer' bytes txn used
+node_same leads log log' ss pages pages' buffer buffer' bytes txn used h l p b =
+    subst (λ (x : Log). IsNode leads x ss pages' buffer' bytes txn used) (sym l)
+    (subst (λ (x : ℕ). IsNode leads log ss x buffer' bytes txn used) (sym p)
+    (subst (λ (x : List Record). IsNode leads log ss pages x bytes txn used) (sym b) h))
 
 -- a primary's buffer goes into its log
-pub node_after_harden : (leads : Bool) (log log' : Log) (at at' pages pages' : ℕ) (buffer buffer' : List Record) (bytes txn : ℕ) (used : List ℕ)
-    → IsNode leads log at pages buffer bytes txn used → log' ≡ with_block log buffer → at' ≡ length log'.records → pages' ≡ pages → buffer' ≡ [] → IsNode leads log' at' pages' buffer' 0 txn used
-node_after_harden leads log log' at at' pages pages' buffer buffer' bytes txn used h l f p b =
+pub node_after_harden : (leads : Bool) (log log' : Log) (ss ss' : List Stripe) (pages pages' : ℕ) (buffer buffer' : List Record) (bytes txn : ℕ) (used : List ℕ)
+    → IsNode leads log ss pages buffer bytes txn used → log' ≡ with_block log buffer → ss' ≡ all_at (length log'.records) → pages' ≡ pages → buffer' ≡ [] → IsNode leads log' ss' pages' buffer' 0 txn used
+node_after_harden leads log log' ss ss' pages pages' buffer buffer' bytes txn used h l f p b =
     let records : log'.records ++ buffer' ≡ log.records ++ buffer = (λ i. (l i).records ++ b i) ∙ append-nil (log.records ++ buffer) in
+    let at = all_within (length log'.records) ss' f in
     record {
       some_pages = omega (arith, p, h.some_pages);
       few_pages = omega (arith, p, h.few_pages);
-      redone = omega (arith, f);
+      sixteen = at.0;
+      redone = at.1;
       counted = sym (ap records_size b);
       room = λ e. subst (λ (x : ℕ). IsSetLog x txn (log'.records ++ buffer') used) (sym p) (subst (λ (x : List Record). IsSetLog pages txn x used) (sym records) (h.room e));
       small = h.small;
     }
 
 -- a block comes to a secondary
-pub node_after_block : (leads : Bool) (log log' : Log) (at pages : ℕ) (buffer new : List Record) (bytes txn : ℕ) (used : List ℕ)
-    → IsNode leads log at pages buffer bytes txn used → leads ≡ false → log' ≡ with_block log new → IsNode leads log' at pages buffer bytes txn used
-node_after_block leads log log' at pages buffer new bytes txn used h follows l =
+pub node_after_block : (leads : Bool) (log log' : Log) (ss : List Stripe) (pages : ℕ) (buffer new : List Record) (bytes txn : ℕ) (used : List ℕ)
+    → IsNode leads log ss pages buffer bytes txn used → leads ≡ false → log' ≡ with_block log new → IsNode leads log' ss pages buffer bytes txn used
+node_after_block leads log log' ss pages buffer new bytes txn used h follows l =
+    let longer : length log.records ≤ length log'.records = omega (arith, ap (λ (x : Log). length x.records) l, length-append log.records new) in
     record {
       some_pages = h.some_pages;
       few_pages = h.few_pages;
-      redone = omega (arith, h.redone, ap (λ (x : Log). length x.records) l, length-append log.records new);
+      sixteen = h.sixteen;
+      redone = λ k d i. (omega (arith, (h.redone k d i).0, longer), omega (arith, (h.redone k d i).1, longer));
       counted = h.counted;
       room = λ e. absurd (let f : false ≡ true = sym follows ∙ e in cc);
       small = h.small;
     }
 
-front_is : (leads : Bool) (log : Log) (at : ℕ) (ds : List Bool) (buffer : List Record) (txn synced : ℕ) (peers : List Peer) → front (node_of leads log at ds (leading_of buffer txn synced peers)) ≡ at
-front_is true log at ds buffer txn synced peers = grind arith
-front_is false log at ds buffer txn synced peers = grind arith
+-- the front of a node, by its stripes
+abbrev front_of : List Stripe → ℕ
+front_of ss = least (map (λ s. s.published) ss)
+
+front_is : (leads : Bool) (log : Log) (ss : List Stripe) (ds : List Bool) (buffer : List Record) (txn synced : ℕ) (peers : List Peer) → front (node_of leads log ss ds (leading_of buffer txn synced peers)) ≡ front_of ss
+front_is true log ss ds buffer txn synced peers = refl
+front_is false log ss ds buffer txn synced peers = refl
 
 -- a read of a node at its front
-reads_is : (leads : Bool) (log : Log) (at : ℕ) (ds : List Bool) (buffer : List Record) (txn synced : ℕ) (peers : List Peer) (h : Here) (key : ℕ) → (let r : Replica = node_of leads log at ds (leading_of buffer txn synced peers) in
-    (reads_at h r (front r) key) ≡ unless (is_too_old at (value h.pages log.records at (page_of h.pages key)).horizon ∷ []) r (at_once (row_answer at (rows log.records at key)) r))
-reads_is leads log at ds buffer txn synced peers h key =
-    let r : Replica = node_of leads log at ds (leading_of buffer txn synced peers) in
-    let p : ℕ = page_of h.pages key in
-    (λ i. reads_at h r (front_is leads log at ds buffer txn synced peers i) key)
-    ∙ access_is_free leads log at ds (leading_of buffer txn synced peers) p _
-    ∙ (λ i. unless (is_too_old at (value h.pages log.records (stands leads log at ds (leading_of buffer txn synced peers) p i) p).horizon ∷ []) r (at_once (row_answer at (rows log.records at key)) r))
+reads_is : (leads : Bool) (log : Log) (ss : List Stripe) (ds : List Bool) (buffer : List Record) (txn synced : ℕ) (peers : List Peer) (h : Here) (key : ℕ) → (let r : Replica = node_of leads log ss ds (leading_of buffer txn synced peers) in
+    (reads_at h r (front r) key) ≡ unless (is_too_old (front_of ss) (value h.pages log.records (get_or ss (stripe_of (page_of h.pages key)) no_stripe).applied (page_of h.pages key)).horizon ∷ []) r (at_once (row_answer (front_of ss) (rows log.records (front_of ss) key)) r))
+reads_is leads log ss ds buffer txn synced peers h key =
+    let r : Replica = node_of leads log ss ds (leading_of buffer txn synced peers) in
+    (λ i. reads_at h r (front_is leads log ss ds buffer txn synced peers i) key)
+    ∙ access_is_free leads log ss ds (leading_of buffer txn synced peers) (page_of h.pages key) _
 
 same_after : (b : Bool) (x y : Part) (r : Replica) → x.after ≡ r → y.after ≡ r → (if b then x else y).after ≡ r
 same_after true x y r p q = p
 same_after false x y r p q = q
 
-pub read_too_old : (leads : Bool) (log : Log) (at : ℕ) (ds : List Bool) (buffer : List Record) (txn synced : ℕ) (peers : List Peer) (r : Replica) (h : Here) (key horizon : ℕ)
-    → node_of leads log at ds (leading_of buffer txn synced peers) ≡ r → horizon ≡ (value h.pages log.records at (page_of h.pages key)).horizon → at < horizon
-    → No (TooOld at horizon) ≡ (reads_at h r (front r) key).answer
-read_too_old leads log at ds buffer txn synced peers r h key horizon is e old =
-    let n : Replica = node_of leads log at ds (leading_of buffer txn synced peers) in
-    let new : (unless (is_too_old at horizon ∷ []) n (at_once (row_answer at (rows log.records at key)) n)).answer ≡ No (TooOld at horizon) = rw (lt-ltb at horizon old) refl in
-    sym new ∙ (λ i. (unless (is_too_old at (e i) ∷ []) n (at_once (row_answer at (rows log.records at key)) n)).answer)
-    ∙ sym (ap (λ (x : Part). x.answer) (reads_is leads log at ds buffer txn synced peers h key)) ∙ (λ i. (reads_at h (is i) (front (is i)) key).answer)
+-- the horizon of a key's page where its stripe stands
+pub record IsHorizon (ss : List Stripe) (log : Log) (h : Here) (key horizon : ℕ) : Type 0 where
+  pub applied : ℕ
+  pub stands : applied ≡ (get_or ss (stripe_of (page_of h.pages key)) no_stripe).applied
+  pub is : horizon ≡ (value h.pages log.records applied (page_of h.pages key)).horizon
 
-pub read_row : (leads : Bool) (log : Log) (at : ℕ) (ds : List Bool) (buffer : List Record) (txn synced : ℕ) (peers : List Peer) (r : Replica) (h : Here) (key horizon : ℕ) (row : Row)
-    → node_of leads log at ds (leading_of buffer txn synced peers) ≡ r → horizon ≡ (value h.pages log.records at (page_of h.pages key)).horizon → horizon ≤ at → row ≡ rows log.records at key
+horizon_is : (ss : List Stripe) (log : Log) (h : Here) (key horizon : ℕ) → IsHorizon ss log h key horizon → horizon ≡ (value h.pages log.records (get_or ss (stripe_of (page_of h.pages key)) no_stripe).applied (page_of h.pages key)).horizon
+horizon_is ss log h key horizon e = e.is ∙ ap (λ (n : ℕ). (value h.pages log.records n (page_of h.pages key)).horizon) e.stands
+
+pub read_too_old : (leads : Bool) (log : Log) (ss : List Stripe) (ds : List Bool) (buffer : List Record) (txn synced : ℕ) (peers : List Peer) (r : Replica) (h : Here) (key at horizon : ℕ)
+    → node_of leads log ss ds (leading_of buffer txn synced peers) ≡ r → at ≡ front_of ss → IsHorizon ss log h key horizon → at < horizon
+    → No (TooOld at horizon) ≡ (reads_at h r (front r) key).answer
+read_too_old leads log ss ds buffer txn synced peers r h key at horizon is a e old =
+    let n : Replica = node_of leads log ss ds (leading_of buffer txn synced peers) in
+    let new : (unless (is_too_old at horizon ∷ []) n (at_once (row_answer at (rows log.records at key)) n)).answer ≡ No (TooOld at horizon) = rw (lt-ltb at horizon old) refl in
+    sym new ∙ (λ i. (unless (is_too_old (a i) (horizon_is ss log h key horizon e i) ∷ []) n (at_once (row_answer (a i) (rows log.records (a i) key)) n)).answer)
+    ∙ sym (ap (λ (x : Part). x.answer) (reads_is leads log ss ds buffer txn synced peers h key)) ∙ (λ i. (reads_at h (is i) (front (is i)) key).answer)
+
+pub read_row : (leads : Bool) (log : Log) (ss : List Stripe) (ds : List Bool) (buffer : List Record) (txn synced : ℕ) (peers : List Peer) (r : Replica) (h : Here) (key at horizon : ℕ) (row : Row)
+    → node_of leads log ss ds (leading_of buffer txn synced peers) ≡ r → at ≡ front_of ss → IsHorizon ss log h key horizon → horizon ≤ at → row ≡ rows log.records at key
     → row_answer at row ≡ (reads_at h r (front r) key).answer
-read_row leads log at ds buffer txn synced peers r h key horizon row is e new found =
-    let n : Replica = node_of leads log at ds (leading_of buffer txn synced peers) in
+read_row leads log ss ds buffer txn synced peers r h key at horizon row is a e new found =
+    let n : Replica = node_of leads log ss ds (leading_of buffer txn synced peers) in
     let told : (unless (is_too_old at horizon ∷ []) n (at_once (row_answer at row) n)).answer ≡ row_answer at row = rw (le-ltb at horizon new) refl in
-    sym told ∙ (λ i. (unless (is_too_old at (e i) ∷ []) n (at_once (row_answer at (found i)) n)).answer)
-    ∙ sym (ap (λ (x : Part). x.answer) (reads_is leads log at ds buffer txn synced peers h key)) ∙ (λ i. (reads_at h (is i) (front (is i)) key).answer)
+    sym told ∙ ap (λ (x : Row). (unless (is_too_old at horizon ∷ []) n (at_once (row_answer at x) n)).answer) found
+    ∙ (λ i. (unless (is_too_old (a i) (horizon_is ss log h key horizon e i) ∷ []) n (at_once (row_answer (a i) (rows log.records (a i) key)) n)).answer)
+    ∙ sym (ap (λ (x : Part). x.answer) (reads_is leads log ss ds buffer txn synced peers h key)) ∙ (λ i. (reads_at h (is i) (front (is i)) key).answer)
 
 -- a read leaves the node as it was
-pub read_left : (leads : Bool) (log : Log) (at : ℕ) (ds : List Bool) (buffer : List Record) (txn synced : ℕ) (peers : List Peer) (r : Replica) (h : Here) (key : ℕ)
-    → node_of leads log at ds (leading_of buffer txn synced peers) ≡ r → (reads_at h r (front r) key).after ≡ r
-read_left leads log at ds buffer txn synced peers r h key is =
-    let n : Replica = node_of leads log at ds (leading_of buffer txn synced peers) in
+pub read_left : (leads : Bool) (log : Log) (ss : List Stripe) (ds : List Bool) (buffer : List Record) (txn synced : ℕ) (peers : List Peer) (r : Replica) (h : Here) (key : ℕ)
+    → node_of leads log ss ds (leading_of buffer txn synced peers) ≡ r → (reads_at h r (front r) key).after ≡ r
+read_left leads log ss ds buffer txn synced peers r h key is =
+    let n : Replica = node_of leads log ss ds (leading_of buffer txn synced peers) in
+    let horizon : ℕ = (value h.pages log.records (get_or ss (stripe_of (page_of h.pages key)) no_stripe).applied (page_of h.pages key)).horizon in
     (λ i. (reads_at h (sym is i) (front (sym is i)) key).after)
-    ∙ ap (λ (x : Part). x.after) (reads_is leads log at ds buffer txn synced peers h key)
-    ∙ same_after (nat_lt at (value h.pages log.records at (page_of h.pages key)).horizon) (refused (TooOld at (value h.pages log.records at (page_of h.pages key)).horizon) n) (at_once (row_answer at (rows log.records at key)) n) n refl refl
+    ∙ ap (λ (x : Part). x.after) (reads_is leads log ss ds buffer txn synced peers h key)
+    ∙ same_after (nat_lt (front_of ss) horizon) (refused (TooOld (front_of ss) horizon) n) (at_once (row_answer (front_of ss) (rows log.records (front_of ss) key)) n) n refl refl
     ∙ is
+
+-- no stripe has published past the end, so the front is within the log
+pub front_within : (end : ℕ) (ss : List Stripe) → length ss ≡ 16 → All (IsWithin end) ss → front_of ss ≤ end
+front_within end [] sixteen h = absurd cc
+front_within end (s ∷ ss) sixteen h = least_le s.published (map (λ x. x.published) ss) (h 0 s (omega arith)).1
+  where
+    least_le : (x : ℕ) (xs : List ℕ) → x ≤ end → least (x ∷ xs) ≤ end
+    least_le x [] l = l
+    least_le x (y ∷ ys) l = omega (arith, l)

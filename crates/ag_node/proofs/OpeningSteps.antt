@@ -6,7 +6,7 @@ use Rattle.ag_model.specs.declared.config.Config.{Config}
 use Rattle.ag_model.specs.declared.record.Log.{Log}
 use Rattle.ag_model.specs.declared.record.Record.{Record}
 use Rattle.ag_model.specs.declared.record.Record.TheVariants.{Term}
-use Rattle.ag_rules.specs.Replica.{Replica, Peer, Page, Leading, clean_page, no_following, all_at}
+use Rattle.ag_rules.specs.Replica.{Replica, Peer, Page, Stripe, Leading, clean_page, no_following, all_at}
 use Rattle.ag_rules.specs.Group.{opening_replica, synced_at_opening, opening_peers}
 use Rattle.ag_node.specs.View.{node_of, kept_of, page_of_flag}
 use Rattle.ag_node.specs.Nodes.{at_opening, leading_of}
@@ -45,12 +45,12 @@ opening_of leads images pages leading = record {
   leading = leading;
 }
 
-opened : (c : Config) (leads : Bool) → node_of leads (record { records = Term 1 ∷ []; ends = 1 ∷ [] }) 1 (replicate c.pages false) (leading_of [] 0 (if leads then synced_at_opening c.modes else 0) (if leads then opening_peers c.modes else [])) ≡ opening_replica c leads
+opened : (c : Config) (leads : Bool) → node_of leads (record { records = Term 1 ∷ []; ends = 1 ∷ [] }) (all_at 1) (replicate c.pages false) (leading_of [] 0 (if leads then synced_at_opening c.modes else 0) (if leads then opening_peers c.modes else [])) ≡ opening_replica c leads
 unfolding opening_replica
 opened c true = λ i. opening_of true (count_same c.pages false i) (pages_clean c.pages i) (leading_of [] 0 (synced_at_opening c.modes) (opening_peers c.modes))
 opened c false = λ i. opening_of false (count_same c.pages false i) (pages_clean c.pages i) (leading_of [] 0 0 [])
 
-pub node_opened : (c : Config) (leads : Bool) (log : Log) (ds : List Bool) (buffer : List Record) (synced : ℕ) (peers : List Peer)
-    → log ≡ record { records = Term 1 ∷ []; ends = 1 ∷ [] } → ds ≡ replicate c.pages false → buffer ≡ [] → synced ≡ (if leads then synced_at_opening c.modes else 0) → peers ≡ (if leads then opening_peers c.modes else [])
-    → node_of leads log 1 ds (leading_of buffer 0 synced peers) ≡ opening_replica c leads
-node_opened c leads log ds buffer synced peers l d b s p = (λ i. node_of leads (l i) 1 (d i) (leading_of (b i) 0 (s i) (p i))) ∙ opened c leads
+pub node_opened : (c : Config) (leads : Bool) (log : Log) (ss : List Stripe) (ds : List Bool) (buffer : List Record) (synced : ℕ) (peers : List Peer)
+    → log ≡ record { records = Term 1 ∷ []; ends = 1 ∷ [] } → ss ≡ all_at 1 → ds ≡ replicate c.pages false → buffer ≡ [] → synced ≡ (if leads then synced_at_opening c.modes else 0) → peers ≡ (if leads then opening_peers c.modes else [])
+    → node_of leads log ss ds (leading_of buffer 0 synced peers) ≡ opening_replica c leads
+node_opened c leads log ss ds buffer synced peers l a d b s p = (λ i. node_of leads (l i) (a i) (d i) (leading_of (b i) 0 (s i) (p i))) ∙ opened c leads

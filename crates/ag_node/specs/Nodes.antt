@@ -5,7 +5,7 @@ use Rattle.ag_model.specs.declared.record.Log.{Log}
 use Rattle.ag_model.specs.declared.answer.Refusal.{Refusal}
 use Rattle.ag_model.specs.Sizes.{records_size}
 use Rattle.ag_rules.specs.Plan.{Check}
-use Rattle.ag_rules.specs.Replica.{Leading, Peer}
+use Rattle.ag_rules.specs.Replica.{Leading, Peer, Stripe}
 use Rattle.std.specs.List.{All}
 use Rattle.ag_node.specs.Room.{IsSetLog}
 
@@ -13,11 +13,16 @@ use Rattle.ag_node.specs.Room.{IsSetLog}
 abbrev pub leading_of : List Record → ℕ → ℕ → List Peer → Leading
 leading_of buffer last_txn synced peers = record { buffer = buffer; open_txns = []; last_txn = last_txn; synced = synced; peers = peers }
 
+-- a stripe that has redone, and published, no more than a log of this length
+abbrev pub IsWithin : ℕ → Stripe → Type 0
+IsWithin end s = (s.applied ≤ end) × (s.published ≤ end)
+
 -- the numbers that a node keeps beside its log and buffer are theirs
-pub record IsNode (leads : Bool) (log : Log) (front : ℕ) (pages : ℕ) (buffer : List Record) (bytes last_txn : ℕ) (used : List ℕ) : Type 0 where
+pub record IsNode (leads : Bool) (log : Log) (stripes : List Stripe) (pages : ℕ) (buffer : List Record) (bytes last_txn : ℕ) (used : List ℕ) : Type 0 where
   pub some_pages : 16 ≤ pages
   pub few_pages : pages ≤ 2048
-  pub redone : front ≤ length log.records
+  pub sixteen : length stripes ≡ 16
+  pub redone : All (λ s. IsWithin (length log.records) s) stripes
   pub counted : bytes ≡ records_size buffer
   pub room : leads ≡ true → IsSetLog pages last_txn (log.records ++ buffer) used
   pub small : All (λ bytes. bytes ≤ 8144) used

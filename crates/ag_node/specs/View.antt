@@ -3,7 +3,7 @@ use Rattle.std.specs.Prelude.{ℕ, List, [], length, map, replicate, Bool, true,
 use Rattle.ag_model.specs.declared.record.Log.{Log}
 use Rattle.ag_model.specs.declared.answer.Cell.{Cell}
 use Rattle.ag_model.specs.declared.answer.Cell.TheVariants.{Mark}
-use Rattle.ag_rules.specs.Replica.{Replica, Kept, Leading, Page, clean_page, no_following, all_at}
+use Rattle.ag_rules.specs.Replica.{Replica, Kept, Leading, Page, Stripe, clean_page, no_following}
 
 -- images of pages that were never written
 abbrev pub blank_images : ℕ → List (List Cell)
@@ -22,9 +22,9 @@ kept_of log pages = record {
 abbrev pub page_of_flag : Bool → Page
 page_of_flag dirty = record clean_page { dirty = dirty }
 
--- a node whose stripes all stand at one LSN; there is a flag for each page
-abbrev pub node_of : Bool → Log → ℕ → List Bool → Leading → Replica
-node_of leads log front dirty leading = record {
+-- a node that has been up since the opening; there is a flag for each page
+abbrev pub node_of : Bool → Log → List Stripe → List Bool → Leading → Replica
+node_of leads log stripes dirty leading = record {
   up = true;
   cut_off = false;
   leads = leads;
@@ -32,7 +32,7 @@ node_of leads log front dirty leading = record {
   state = if leads then 0 else 1;
   kept = kept_of log (length dirty);
   pages = map page_of_flag dirty;
-  stripes = all_at front;
+  stripes = stripes;
   following = no_following;
   leading = leading;
 }

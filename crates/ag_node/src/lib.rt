@@ -10,3 +10,4 @@ mod peer;
 mod room;
 mod rows;
 pub mod site;
+mod stripes;

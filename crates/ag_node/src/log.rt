@@ -1,7 +1,7 @@
 //! The hardened log of a replica, in memory. Each question about it is answered without walking its records.
 ghost use Rattle.std.specs.Prelude.{◌≡◌, ◌+◌, ◌-◌, ◌/◌, ◌*◌, ◌^◌, ◌<◌, ◌≤◌, ◌++◌, ◌∷◌, [], length, take, IfOk, IfSome, OnOk, OnErr};
 ghost use Rattle.ag_model.specs.declared.record.Record.TheVariants.{Term};
-ghost use Rattle.ag_model.specs.Blocks.{with_block, end_of_block, after_to};
+ghost use Rattle.ag_model.specs.Blocks.{with_block, end_of_block, next_end, after_to};
 ghost use Rattle.ag_model.specs.Starts.{last_term, start_by};
 ghost use Rattle.ag_model.specs.Sizes.{record_size as size_of_record, records_size as size_of_records, free_sectors as sectors_left};
 ghost use Rattle.std.specs.Option.{option_and_then};
@@ -84,6 +84,15 @@ impl HardenedLog {
         ensures bounds { IfSome result (λ last. (1 ≤ first) × (first ≤ last) × (last ≤ length self.now.records)) }
     {
         block_end(self.ends.as_slice(), first)
+    }
+
+    /// The end of the first block that ends after an LSN, or this LSN where none does.
+    pub(crate) fn end_after(&self, lsn: u64) -> u64
+        ensures end { result ≡ next_end lsn self.now.ends }
+        ensures least { lsn ≤ result }
+        ensures within { lsn ≤ length self.now.records → result ≤ length self.now.records }
+    {
+        end_after(self.ends.as_slice(), lsn)
     }
 
     /// The records from one LSN to another.
@@ -248,6 +257,21 @@ fn place_after(ends: &[u64], before: u64) -> Option<usize>
     }
 }
 
+/// The first end after an LSN, or this LSN where there is none.
+fn end_after(ends: &[u64], lsn: u64) -> u64
+    requires { RisesFrom 0 ends.now }
+    ensures { result ≡ next_end lsn ends.now }
+{
+    let place = match ends.binary_search(&lsn) {
+        Ok(place) => place + 1,
+        Err(place) => place,
+    };
+    match ends.get(place) {
+        Some(end) => *end,
+        None => lsn,
+    }
+}
+
 /// The bytes of some records, or an error where the number doesn't fit.
 pub(crate) fn records_size(records: &[Record]) -> Result<u64, NoMemory>
     ensures { IfOk result (λ bytes. bytes ≡ size_of_records records.now) }
@@ -341,6 +365,9 @@ mod tests {
             (7, None),
         ] {
             assert_eq!(rt; log.block_from(first), want, "from {first}");
+        }
+        for (lsn, want) in [(0, 1), (1, 3), (2, 3), (3, 6), (6, 6), (7, 7)] {
+            assert_eq!(rt; log.end_after(lsn), want, "after {lsn}");
         }
         let copy = log.copy_block(alloc, 4, 6)?;
         assert_eq!(rt; records_size(copy.as_slice())?, 103);

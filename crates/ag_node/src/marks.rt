@@ -1,12 +1,25 @@
 //! Which pages redo makes dirty.
-ghost use Rattle.std.specs.Prelude.{◌≡◌, ◌+◌, ◌<◌, ◌≤◌, ◌==◌, length};
+ghost use Rattle.std.specs.Prelude.{◌≡◌, ◌+◌, ◌<◌, ◌≤◌, ◌==◌, ◌&&◌, length};
+ghost use Rattle.std.specs.List.{All};
 ghost use Rattle.ag_model.specs.Rows.{page_of, touches, contains};
-ghost use Rattle.ag_node.specs.Marked.{set_where, marked};
+ghost use Rattle.ag_node.specs.Marked.{set_where, is_of, marked_of, marked_to_end};
+ghost use Rattle.ag_node.specs.Nodes.{IsWithin};
 
+use crate::stripes::Stripes;
 use ag_model::record::Record;
 
+/// Whether a page is of this stripe, where one is named.
+fn is_of(stripe: Option<u8>, page: u16) -> bool
+    ensures { result ≡ is_of stripe page }
+{
+    match stripe {
+        Some(stripe) => page % 16 == u16::from(stripe),
+        None => true,
+    }
+}
+
 /// Sets the flag of a page, where there is one.
-fn mark_page(dirty: &mut [bool], page: u16)
+fn set_flag(dirty: &mut [bool], page: u16)
     ensures { dirty.new ≡ set_where (λ p. p == page) 16 dirty.old }
 {
     let number = usize::from(page);
@@ -15,53 +28,76 @@ fn mark_page(dirty: &mut [bool], page: u16)
     }
 }
 
+/// Sets the flag of a page of the stripe.
+fn mark_page(dirty: &mut [bool], stripe: Option<u8>, page: u16)
+    ensures { dirty.new ≡ set_where (λ p. is_of stripe p && (p == page)) 16 dirty.old }
+{
+    if is_of(stripe, page) {
+        set_flag(dirty, page);
+    }
+}
+
 /// Sets the flag of a key's page.
-fn mark_key(dirty: &mut [bool], key: u32)
+fn mark_key(dirty: &mut [bool], stripe: Option<u8>, key: u32)
     requires some { 0 < length dirty.old }
     requires few { length dirty.old ≤ 2048 }
-    ensures { dirty.new ≡ set_where (λ p. p == page_of (length dirty.old) key) 16 dirty.old }
+    ensures { dirty.new ≡ set_where (λ p. is_of stripe p && (p == page_of (length dirty.old) key)) 16 dirty.old }
 {
     let page = 16 + key % dirty.len() as u32;
-    mark_page(dirty, page as u16);
+    mark_page(dirty, stripe, page as u16);
 }
 
 /// Sets the flags of the listed pages.
-fn mark_listed(dirty: &mut [bool], listed: &[u16])
-    ensures { dirty.new ≡ set_where (λ p. contains p listed.now) 16 dirty.old }
+fn mark_listed(dirty: &mut [bool], stripe: Option<u8>, listed: &[u16])
+    ensures { dirty.new ≡ set_where (λ p. is_of stripe p && contains p listed.now) 16 dirty.old }
 {
     for page in listed {
-        mark_page(dirty, *page);
+        mark_page(dirty, stripe, *page);
     }
 }
 
 /// Sets the flags of the pages that a record touches.
-fn mark_one(dirty: &mut [bool], entry: &Record)
+fn mark_one(dirty: &mut [bool], stripe: Option<u8>, entry: &Record)
     requires some { 0 < length dirty.old }
     requires few { length dirty.old ≤ 2048 }
-    ensures { dirty.new ≡ set_where (λ p. touches (length dirty.old) p entry.now) 16 dirty.old }
+    ensures { dirty.new ≡ set_where (λ p. is_of stripe p && touches (length dirty.old) p entry.now) 16 dirty.old }
 {
     match entry {
         Record::Put {
             txn: _,
             key,
             value: _,
-        } => mark_key(dirty, *key),
-        Record::Del { txn: _, key } => mark_key(dirty, *key),
-        Record::Commit { txn: _, pages } => mark_listed(dirty, pages.as_slice()),
-        Record::Abort { txn: _, pages } => mark_listed(dirty, pages.as_slice()),
-        Record::Trim { page, horizon: _ } => mark_page(dirty, *page),
+        } => mark_key(dirty, stripe, *key),
+        Record::Del { txn: _, key } => mark_key(dirty, stripe, *key),
+        Record::Commit { txn: _, pages } => mark_listed(dirty, stripe, pages.as_slice()),
+        Record::Abort { txn: _, pages } => mark_listed(dirty, stripe, pages.as_slice()),
+        Record::Trim { page, horizon: _ } => mark_page(dirty, stripe, *page),
         Record::Term { term: _ } => {}
     }
 }
 
-/// Sets the flags of the pages that the records touch. The first flag is of page 16.
-pub(crate) fn mark(dirty: &mut [bool], new: &[Record])
+/// Sets the flags of the pages of a stripe, or of all, that the records touch. The first flag is of page 16.
+pub(crate) fn mark(dirty: &mut [bool], stripe: Option<u8>, new: &[Record])
     requires some { 0 < length dirty.old }
     requires few { length dirty.old ≤ 2048 }
-    ensures { dirty.new ≡ marked new.now dirty.old }
+    ensures { dirty.new ≡ marked_of stripe new.now dirty.old }
 {
     for entry in new {
-        mark_one(dirty, entry);
+        mark_one(dirty, stripe, entry);
+    }
+}
+
+/// Sets the flags of the pages that a record touches which their stripe hasn't redone.
+pub(crate) fn mark_to_end(dirty: &mut [bool], stripes: &Stripes, log: &[Record])
+    requires some { 0 < length dirty.old }
+    requires few { length dirty.old ≤ 2048 }
+    requires redone { All (IsWithin (length log.now)) stripes.now }
+    requires sixteen { length stripes.now ≡ 16 }
+    ensures { dirty.new ≡ marked_to_end stripes.now log.now dirty.old }
+{
+    for stripe in 0..16u8 {
+        let applied = stripes.applied(stripe) as usize;
+        mark(dirty, Some(stripe), &log[applied..]);
     }
 }
 
@@ -95,12 +131,13 @@ mod tests {
             ),
         ] {
             let mut dirty = [false; 3];
-            mark(&mut dirty, &[entry]);
+            mark(&mut dirty, None, &[entry]);
             assert_eq!(rt; dirty, want);
         }
         let mut dirty = [true, false, false];
         mark(
             &mut dirty,
+            None,
             &[
                 Record::Del { txn: 1, key: 2 },
                 Record::Del { txn: 1, key: 8 },

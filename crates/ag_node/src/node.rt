@@ -15,6 +15,7 @@ use crate::log::{HardenedLog, block_sectors_of};
 use crate::opening::{clean, known_at_opening, unused};
 use crate::peer::PeerState;
 use crate::site::Site;
+use crate::stripes::Stripes;
 use ag_model::answer::{Answer, Refusal};
 use ag_model::config::Config;
 use ag_model::list::ListOf;
@@ -31,8 +32,7 @@ const TERM: u64 = 1;
 pub struct Node {
     leads: bool,
     log: HardenedLog,
-    /// Where all stripes stand and what they have published, an LSN.
-    front: u64,
+    stripes: Stripes,
     /// One flag a data page.
     dirty: Vec<bool>,
     buffer: RecordList,
@@ -53,9 +53,9 @@ impl Model for Node {
 
     ghost Value = { Replica };
 
-    ghost view = { λ n. node_of n.leads n.log n.front n.dirty.items (leading_of n.buffer n.last_txn n.synced n.peers.items) };
+    ghost view = { λ n. node_of n.leads n.log n.stripes n.dirty.items (leading_of n.buffer n.last_txn n.synced n.peers.items) };
 
-    ghost invariant = { λ n. IsNode n.leads n.log n.front (length n.dirty.items) n.buffer n.buffered n.last_txn n.used.items };
+    ghost invariant = { λ n. IsNode n.leads n.log n.stripes (length n.dirty.items) n.buffer n.buffered n.last_txn n.used.items };
 }
 
 impl Node {
@@ -98,7 +98,7 @@ impl Node {
     fn front(&self) -> u64
         ensures { result ≡ front self.now }
     {
-        self.front
+        self.stripes.front()
     }
 
     /// Why the log has no room for a block of these bytes, if it has none.
@@ -124,7 +124,7 @@ impl Node {
         Ok(Node {
             leads,
             log: HardenedLog::opening(alloc)?,
-            front: 1,
+            stripes: Stripes::all_at(1),
             dirty: clean(alloc, config.pages)?,
             buffer: ListOf::new(alloc),
             buffered: 0,

@@ -1,35 +1,40 @@
 //! Which events are built.
 ghost use Rattle.std.specs.Prelude.{◌↔◌, IsTrue};
-ghost use Rattle.ag_built.specs.Built.{IsBuilt};
+ghost use Rattle.ag_built.specs.Built.{IsBuilt, IsLetter};
 
 use ag_model::event::{Event, Suffix, Who};
 
-/// The word of the first replica.
-const A: Who = Who::Letter(0);
-
-/// The word of the second.
-const B: Who = Who::Letter(1);
+/// Whether a word is the letter of a replica.
+fn is_letter(who: &Who) -> bool
+    ensures { IsTrue result ↔ IsLetter who.now }
+{
+    match who {
+        Who::Letter(_) => true,
+        Who::Primary => false,
+    }
+}
 
 /// Whether this event is built.
 pub(crate) fn is_built(event: &Event) -> bool
     ensures { IsTrue result ↔ IsBuilt event.now }
 {
     match event {
-        Event::Set {
-            node,
-            pairs,
-            suffix,
-        } => *node == A && pairs.len() == 1 && *suffix == Suffix::Whole,
-        Event::Harden { node, suffix } => *node == A && *suffix == Suffix::Whole,
-        Event::Send { node, to, suffix } => *node == A && *to == B && *suffix == Suffix::Whole,
-        Event::Deliver {
-            node,
-            to,
-            number,
-            suffix,
-        } => *node == A && *to == B && *number == 1 && *suffix == Suffix::Whole,
-        Event::Redo { node, suffix } => *node == B && *suffix == Suffix::Whole,
-        Event::Read { node, suffix, .. } => *node == B && *suffix == Suffix::Whole,
+        Event::Set { node, suffix, .. }
+        | Event::Harden { node, suffix }
+        | Event::Apply { node, suffix, .. }
+        | Event::Raise { node, suffix, .. }
+        | Event::Redo { node, suffix }
+        | Event::Read { node, suffix, .. } => is_letter(node) && *suffix == Suffix::Whole,
+        Event::Send { node, to, suffix }
+        | Event::Deliver {
+            node, to, suffix, ..
+        }
+        | Event::Repeat {
+            node, to, suffix, ..
+        }
+        | Event::Lose {
+            node, to, suffix, ..
+        } => is_letter(node) && is_letter(to) && *suffix == Suffix::Whole,
         _ => false,
     }
 }

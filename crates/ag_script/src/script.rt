@@ -15,7 +15,7 @@ use ag_model::event::{Event, EventList};
 use std::alloc::{AllocError, Global};
 
 /// The most event lines that a scenario may have.
-const MAX_EVENTS: usize = 80;
+const MAX_EVENTS: usize = 200_000;
 
 /// What a line is.
 #[derive(Debug, Drop)]

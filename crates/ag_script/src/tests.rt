@@ -29,7 +29,7 @@ fn two(alloc: Global) -> Result<Config, AllocError>
 /// How many events a script has whose first line is line 10.
 fn count(alloc: Global, text: &[u8]) -> Result<usize, ScriptFault> {
     let c = two(alloc)?;
-    if text.len() > 1_000_000 {
+    if text.len() > 16_777_216 {
         return Err(ScriptFault::NoMemory);
     }
     Ok(read_events(alloc, text, 10, &c)?.len())
@@ -52,6 +52,11 @@ fn reads_scripts(rt: HostRuntime) -> Result<(), Fail> {
             Ok(6),
         ),
         (b"set A 4294967295 -\nread B 63 4294967295\n", Ok(2)),
+        (
+            b"set B 5 aa 6 bb\nharden B\nsend B A\ndeliver B A 2\nrepeat A B 1024\nlose A B 7\n",
+            Ok(6),
+        ),
+        (b"apply B 0\nraise A 15\nredo A\nread A 0 0\n", Ok(4)),
         (b"\n# a\nharden A\nharden C\nharden C\n", bad(13)),
         (b"harden A", bad(10)),
         (b"harden A\n# a", bad(11)),
@@ -59,12 +64,10 @@ fn reads_scripts(rt: HostRuntime) -> Result<(), Fail> {
         (b"harden A\r\n", bad(10)),
         (b"harden A\n\x00\n", bad(11)),
         // not built
-        (b"harden B\n", bad(10)),
         (b"harden @\n", bad(10)),
+        (b"send A @\n", bad(10)),
         (b"crash A\n", bad(10)),
-        (b"set B 5 aa\n", bad(10)),
-        (b"set A 5 aa 6 bb\n", bad(10)),
-        (b"deliver A B 2\n", bad(10)),
+        (b"begin A\n", bad(10)),
         (b"harden A fail 1\n", bad(10)),
         (b"set A 5 aa stop 1 0\n", bad(10)),
     ];
@@ -77,15 +80,15 @@ fn reads_scripts(rt: HostRuntime) -> Result<(), Fail> {
 #[test]
 fn counts_events(rt: HostRuntime) -> Result<(), Fail> {
     let mut text = Vec::new(rt.alloc());
-    for _ in 0..79 {
-        text.extend_from_slice(b"#\nredo B\n".as_slice())?;
+    for _ in 0..199_999 {
+        text.extend_from_slice(b"redo B\n".as_slice())?;
     }
     text.extend_from_slice(b"redo B\n#\n\n".as_slice())?;
-    assert_eq!(rt; count(rt.alloc(), &text), Ok(80));
+    assert_eq!(rt; count(rt.alloc(), &text), Ok(200_000));
     text.extend_from_slice(b"redo B".as_slice())?;
     assert_eq!(rt;
         count(rt.alloc(), &text),
-        Err(ScriptFault::BadLine { line: 171 }),
+        Err(ScriptFault::BadLine { line: 200_012 }),
         "a line that is cut off"
     );
     text.push(b'\n')?;

@@ -1,10 +1,12 @@
 //! What the events of a secondary do.
-ghost use Rattle.std.specs.Prelude.{◌≡◌, ◌<◌, ◌∷◌, [], IfOk, OnOk, IfSome, length, false};
+ghost use Rattle.std.specs.Prelude.{◌≡◌, ◌<◌, ◌==◌, ◌∷◌, [], IfOk, OnOk, IfSome, length, false};
 ghost use Rattle.ag_model.specs.Blocks.{with_block};
-ghost use Rattle.ag_rules.specs.Replica.{end, front};
+ghost use Rattle.ag_rules.specs.Replica.{end, front, stripe};
 ghost use Rattle.ag_rules.specs.Promotion.{log_check};
 ghost use Rattle.ag_rules.specs.Redo.{touched_up_to};
 ghost use Rattle.ag_rules.specs.RedoEvent.{redo_part, redoes_touching};
+ghost use Rattle.ag_rules.specs.ApplyEvent.{apply_part, applies_touching, next_of_stripe, touched_in_stripe};
+ghost use Rattle.ag_rules.specs.RaiseEvent.{raise_part, raised};
 ghost use Rattle.ag_rules.specs.ReadEvent.{read_part, reads_at};
 ghost use Rattle.ag_rules.specs.Messages.{ack_message};
 ghost use Rattle.ag_rules.specs.BlockMessage.{block_part};
@@ -15,9 +17,10 @@ ghost use Rattle.ag_node.specs.Nodes.{IsRefusedBy};
 
 use super::{Node, TERM};
 use crate::log::{copy_of, records_size};
-use crate::marks::mark;
+use crate::marks::{mark, mark_to_end};
 use crate::rows::{horizon_at, row_at};
 use crate::site::Site;
+use crate::stripes::Stripes;
 use ag_model::answer::{Answer, Refusal};
 use ag_model::config::Token;
 use ag_model::message::{Block, Body, Message};
@@ -48,10 +51,92 @@ impl Node {
         ensures after { self.new ≡ (redoes_touching pages self.old (touched_up_to pages (end self.old) self.old)).after }
         ensures pages { length self.new.pages ≡ length self.old.pages }
     {
+        let end = self.log.end();
         let records = self.log.records();
-        mark(self.dirty.as_mut_slice(), &records[self.front as usize..]);
-        self.front = self.log.end();
-        self.front
+        mark_to_end(self.dirty.as_mut_slice(), &self.stripes, records);
+        self.stripes = Stripes::all_at(end);
+        end
+    }
+
+    /// `apply` at this replica: a stripe goes through the next block of the log.
+    #[tactic(auto, unfolding(ag_rules::specs::ApplyEvent::apply_part))]
+    pub fn apply(&mut self, site: &Site, stripe: u8) -> Answer
+        requires pages { site.now.pages ≡ length self.old.pages }
+        requires stripe { stripe < 16 }
+        ensures answer { result ≡ (apply_part (here_at site.now) self.old stripe).answer }
+        ensures after { self.new ≡ (apply_part (here_at site.now) self.old stripe).after }
+        ensures pages { length self.new.pages ≡ length self.old.pages }
+    {
+        if self.leads() {
+            return Answer::No(Refusal::NotSecondary { node: site.number });
+        }
+        if self.applied(stripe) == self.end() {
+            return Answer::No(Refusal::Nothing);
+        }
+        let lsn = self.apply_next(site.pages, stripe);
+        Answer::Applied { lsn }
+    }
+
+    /// The LSN to which a stripe has redone.
+    fn applied(&self, x: u8) -> u64
+        requires { x < 16 }
+        ensures { result ≡ (stripe self.now x).applied }
+    {
+        self.stripes.applied(x)
+    }
+
+    /// Applies the next block of the log to a stripe.
+    fn apply_next(&mut self, pages: u16, x: u8) -> u64
+        requires pages { pages ≡ length self.old.pages }
+        requires stripe { x < 16 }
+        requires follows { self.old.leads ≡ false }
+        ensures lsn { result ≡ next_of_stripe self.old x }
+        ensures after { self.new ≡ (applies_touching pages self.old x (next_of_stripe self.old x) (touched_in_stripe pages self.old x (next_of_stripe self.old x))).after }
+        ensures pages { length self.new.pages ≡ length self.old.pages }
+    {
+        let applied = self.stripes.applied(x);
+        let next = self.log.end_after(applied);
+        let new = &self.log.records()[applied as usize..next as usize];
+        mark(self.dirty.as_mut_slice(), Some(x), new);
+        self.stripes.apply(x, next);
+        next
+    }
+
+    /// `raise` at this replica: a stripe publishes what it has redone.
+    #[tactic(auto, unfolding(ag_rules::specs::RaiseEvent::raise_part))]
+    pub fn raise(&mut self, site: &Site, stripe: u8) -> Answer
+        requires stripe { stripe < 16 }
+        ensures answer { result ≡ (raise_part (here_at site.now) self.old stripe).answer }
+        ensures after { self.new ≡ (raise_part (here_at site.now) self.old stripe).after }
+        ensures pages { length self.new.pages ≡ length self.old.pages }
+    {
+        if self.leads() {
+            return Answer::No(Refusal::NotSecondary { node: site.number });
+        }
+        if self.is_raised(stripe) {
+            return Answer::No(Refusal::Nothing);
+        }
+        let lsn = self.raise_stripe(stripe);
+        Answer::Raised { lsn }
+    }
+
+    /// Whether a stripe has published all that it has redone.
+    fn is_raised(&self, x: u8) -> bool
+        requires { x < 16 }
+        ensures { result ≡ ((stripe self.now x).published == (stripe self.now x).applied) }
+    {
+        self.stripes.published(x) == self.stripes.applied(x)
+    }
+
+    /// Publishes what a stripe has redone.
+    fn raise_stripe(&mut self, x: u8) -> u64
+        requires stripe { x < 16 }
+        ensures lsn { result ≡ (stripe self.old x).applied }
+        ensures after { self.new ≡ raised self.old x }
+        ensures pages { length self.new.pages ≡ length self.old.pages }
+    {
+        self.stripes.raise(x);
+        self.stripes.applied(x)
     }
 
     /// `read` at this replica, for a session with this token.
@@ -87,20 +172,19 @@ impl Node {
         ensures left { (reads_at (here_at site.now) self.now (front self.now) key).after ≡ self.now }
     {
         let records = self.log.records();
+        let front = self.stripes.front();
         let page = 16 + (key % u32::from(site.pages)) as u16;
-        let horizon = horizon_at(site.pages, records, self.front as usize, page);
-        if self.front < horizon {
+        let applied = self.stripes.applied((page % 16) as u8);
+        let horizon = horizon_at(site.pages, records, applied as usize, page);
+        if front < horizon {
             return Answer::No(Refusal::TooOld {
-                snapshot: self.front,
+                snapshot: front,
                 horizon,
             });
         }
-        match row_at(records, self.front as usize, key) {
-            Row::Found(value) => Answer::Row {
-                front: self.front,
-                value,
-            },
-            Row::Absent => Answer::Absent { front: self.front },
+        match row_at(records, front as usize, key) {
+            Row::Found(value) => Answer::Row { front, value },
+            Row::Absent => Answer::Absent { front },
         }
     }
 
@@ -179,7 +263,7 @@ impl Node {
             term: TERM,
             body: Body::Ack {
                 hardened,
-                low: self.front,
+                low: self.stripes.front(),
             },
         }
     }

@@ -18,6 +18,7 @@ use crate::log::records_size;
 use crate::marks::mark;
 use crate::room::{first_full, spend};
 use crate::site::Site;
+use crate::stripes::Stripes;
 use ag_model::answer::{Answer, Refusal};
 use ag_model::event::{Pair, PairList};
 use ag_model::message::{Block, Body, Message};
@@ -134,11 +135,12 @@ impl Node {
         ensures after { OnOk result (self.new ≡ (hardens pages self.old (due_pages pages (hardened_one pages self.old))).after) }
         ensures pages { length self.new.pages ≡ length self.old.pages }
     {
-        mark(self.dirty.as_mut_slice(), self.buffer.as_slice());
+        mark(self.dirty.as_mut_slice(), None, self.buffer.as_slice());
         self.log.append(&mut self.buffer)?;
         self.buffered = 0;
-        self.front = self.log.end();
-        Ok(self.front)
+        let end = self.log.end();
+        self.stripes = Stripes::all_at(end);
+        Ok(end)
     }
 
     /// `send` at this replica: the next hardened block goes to replica m, whose link may be full.

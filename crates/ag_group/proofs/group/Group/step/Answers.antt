@@ -5,11 +5,14 @@ use Rattle.ag_rules.specs.Plan.{here, at_node}
 use Rattle.ag_rules.specs.SetEvent.{set_part}
 use Rattle.ag_rules.specs.HardenEvent.{harden_part}
 use Rattle.ag_rules.specs.RedoEvent.{redo_part}
+use Rattle.ag_rules.specs.ApplyEvent.{apply_part}
+use Rattle.ag_rules.specs.RaiseEvent.{raise_part}
+use Rattle.ag_rules.specs.DeliverEvent.{plan_of_lose}
 use Rattle.ag_rules.specs.ReadEvent.{read_part}
 use Rattle.ag_rules.specs.SendEvent.{send_part}
 use Rattle.ag_rules.specs.Next.{apart, at_session, token}
 use Rattle.ag_group.specs.Refusals.{leaves_node, leaves_group}
-use Rattle.ag_group.proofs.Refused.{left_by, set_left, harden_left, redo_left, read_left, send_left}
+use Rattle.ag_group.proofs.Refused.{left_by, set_left, harden_left, apply_left, raise_left, redo_left, read_left, send_left, lose_left}
 use Rattle.ag_group.proofs.group.Group.step.Goals as goal
 
 pub returns-in_ok-answer-in-Set-clause-refused : goal.returns-in_ok-answer-in-Set-clause-refused
@@ -36,3 +39,18 @@ pub returns-in-Read-clause-refused : goal.returns-in-Read-clause-refused
 returns-in-Read-clause-refused c =
     let g : Group = c.args.self.now in
     left_by c.args.event.now leaves_node g c.read-answer.new.self (at_session g c.named-n-in-Read.result c.in-Read.session (read_part (here g c.named-n-in-Read.result) (replica g c.named-n-in-Read.result) (token g c.in-Read.session) c.in-Read.key)) c.read-answer.result (λ why. ap (λ (e : Event). leaves_group e why) c.in-Read.is) c.read-answer.ensures.answer c.read-answer.ensures.after (read_left g c.named-n-in-Read.result c.in-Read.session c.in-Read.key)
+
+pub returns-in-Apply-clause-refused : goal.returns-in-Apply-clause-refused
+returns-in-Apply-clause-refused c =
+    let g : Group = c.args.self.now in
+    left_by c.args.event.now leaves_node g c.apply-answer.new.self (at_node g c.named-n-in-Apply.result (apply_part (here g c.named-n-in-Apply.result) (replica g c.named-n-in-Apply.result) c.in-Apply.stripe)) c.apply-answer.result (λ why. ap (λ (e : Event). leaves_group e why) c.in-Apply.is) c.apply-answer.ensures.answer c.apply-answer.ensures.after (apply_left g c.named-n-in-Apply.result c.in-Apply.stripe)
+
+pub returns-in-Raise-clause-refused : goal.returns-in-Raise-clause-refused
+returns-in-Raise-clause-refused c =
+    let g : Group = c.args.self.now in
+    left_by c.args.event.now leaves_node g c.raise-answer.new.self (at_node g c.named-n-in-Raise.result (raise_part (here g c.named-n-in-Raise.result) (replica g c.named-n-in-Raise.result) c.in-Raise.stripe)) c.raise-answer.result (λ why. ap (λ (e : Event). leaves_group e why) c.in-Raise.is) c.raise-answer.ensures.answer c.raise-answer.ensures.after (raise_left g c.named-n-in-Raise.result c.in-Raise.stripe)
+
+pub returns-in-Lose-clause-refused : goal.returns-in-Lose-clause-refused
+returns-in-Lose-clause-refused c =
+    let g : Group = c.args.self.now in
+    left_by c.args.event.now leaves_node g c.lose-answer.new.self (apart g c.named-n-in-Lose.result c.named-m-in-Lose.result (plan_of_lose g c.named-n-in-Lose.result c.named-m-in-Lose.result c.in-Lose.number)) c.lose-answer.result (λ why. ap (λ (e : Event). leaves_group e why) c.in-Lose.is) c.lose-answer.ensures.answer c.lose-answer.ensures.after (lose_left g c.named-n-in-Lose.result c.named-m-in-Lose.result c.in-Lose.number)

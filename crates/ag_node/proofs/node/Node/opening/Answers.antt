@@ -7,6 +7,6 @@ use Rattle.ag_node.proofs.node.Node.opening.Goals as goal
 
 pub returns-clause-node : goal.returns-clause-node
 returns-clause-node c =
-    node_opened c.args.config.now c.args.leads c.in_ok-opening.field-0 c.in_ok-clean.field-0.items c.new.result c.in_ok-synced.synced c.in_ok-synced.peers.items c.in_ok-opening.ensures c.in_ok-clean.ensures c.new.ensures
+    node_opened c.args.config.now c.args.leads c.in_ok-opening.field-0 c.all_at.result c.in_ok-clean.field-0.items c.new.result c.in_ok-synced.synced c.in_ok-synced.peers.items c.in_ok-opening.ensures c.all_at.ensures c.in_ok-clean.ensures c.new.ensures
     (c.in_ok-synced.ensures.synced ∙ ap (λ (m : List Mode). if c.args.leads then synced_at_opening m else 0) c.as_slice.ensures)
     (c.in_ok-synced.ensures.peers ∙ ap (λ (m : List Mode). if c.args.leads then opening_peers m else []) c.as_slice.ensures)

@@ -5,7 +5,7 @@ use Rattle.ag_rules.specs.Checks.{is_down}
 use Rattle.ag_rules.specs.DeliverEvent.{arrives}
 use Rattle.ag_node.specs.Sites.{here_at}
 use Rattle.ag_group.proofs.Lifts.{ack_quiet}
-use Rattle.ag_group.proofs.group.arrive.Goals as goal
+use Rattle.ag_group.proofs.group.messages.arrive.Goals as goal
 
 pub returns-in-Ack-clause-out : goal.returns-in-Ack-clause-out
 returns-in-Ack-clause-out c =

@@ -1,0 +1,236 @@
+//! The events of the links.
+ghost use Rattle.std.specs.Prelude.{◌≡◌, ◌<◌, ◌≤◌, IfOk, OnOk, IfSome, length, ◌-◌, ◌==◌, Some, slice_get, true, false};
+ghost use Rattle.std.specs.Option.{is_some};
+ghost use Rattle.ag_rules.specs.Group.{replica, with_replica, is_full, link};
+ghost use Rattle.ag_rules.specs.Plan.{here, at_node, posted};
+ghost use Rattle.ag_rules.specs.SendEvent.{send_part};
+ghost use Rattle.ag_rules.specs.DeliverEvent.{plan_of_deliver, plan_of_lose, message_part, leaves, taken};
+ghost use Rattle.ag_rules.specs.Next.{apart};
+ghost use Rattle.ag_built.specs.Built.{IsBuiltMessage};
+ghost use Rattle.ag_model.specs.declared.answer.Refusal.{Refusal};
+ghost use Rattle.ag_model.specs.declared.message.Message.{Message};
+ghost use Rattle.ag_group.specs.Arrivals.{IsArrival};
+ghost use Rattle.ag_group.specs.Refusals.{leaves_message};
+ghost use Rattle.ag_node.specs.Out.{posting_of};
+ghost use Rattle.ag_node.specs.Sites.{here_at};
+
+use super::Group;
+use ag_model::answer::{Answer, Refusal};
+use ag_model::message::{Body, Message};
+use ag_model::value::NoMemory;
+use ag_node::node::Node;
+use ag_node::site::Site;
+use std::alloc::Global;
+
+impl Group {
+    /// Whether the link from n to m has no room.
+    pub(super) fn is_full(&self, n: u8, m: u8) -> bool
+        requires from { n < length self.now.config.modes }
+        requires to { m < length self.now.config.modes }
+        ensures { result ≡ is_full self.now n m }
+    {
+        self.links[usize::from(n)].is_full(m)
+    }
+
+    /// `send`: the next hardened block goes into the link from n to m.
+    #[tactic(auto, unfolding(ag_rules::specs::SendEvent::send_part))]
+    pub(super) fn send(&mut self, alloc: Global, n: u8, m: u8) -> Result<Answer, NoMemory>
+        requires from { n < length self.old.config.modes }
+        requires to { m < length self.old.config.modes }
+        ensures answer { IfOk result (λ a. a ≡ (apart self.old n m (at_node self.old n (send_part (here self.old n) (replica self.old n) m (is_full self.old n m)))).answer) }
+        ensures after { OnOk result (self.new ≡ (apart self.old n m (at_node self.old n (send_part (here self.old n) (replica self.old n) m (is_full self.old n m)))).after) }
+        ensures config { OnOk result (self.new.config ≡ self.old.config) }
+    {
+        if n == m {
+            return Ok(Answer::No(Refusal::Nothing));
+        }
+        let full = self.is_full(n, m);
+        let (answer, message) = self.send_from(alloc, n, m, full)?;
+        self.post(n, m, message)?;
+        Ok(answer)
+    }
+
+    /// What a `send` does at its node.
+    fn send_from(
+        &mut self,
+        alloc: Global,
+        n: u8,
+        m: u8,
+        full: bool,
+    ) -> Result<(Answer, Option<Message>), NoMemory>
+        requires { n < length self.old.config.modes }
+        ensures answer { IfOk result (λ x. x.0 ≡ (send_part (here self.old n) (replica self.old n) m full).answer) }
+        ensures out { IfOk result (λ x. posting_of m x.1 ≡ (send_part (here self.old n) (replica self.old n) m full).out) }
+        ensures built { IfOk result (λ x. IfSome x.1 IsBuiltMessage) }
+        ensures after { OnOk result (self.new ≡ with_replica self.old n (send_part (here self.old n) (replica self.old n) m full).after) }
+        ensures config { self.new.config ≡ self.old.config }
+    {
+        let site = self.site(n);
+        let node = &mut self.nodes[usize::from(n)];
+        let sent = node.send(alloc, &site, m, full)?;
+        Ok(sent)
+    }
+
+    /// Puts a message from n, if there is one, into a link.
+    fn post(&mut self, n: u8, to: u8, message: Option<Message>) -> Result<(), NoMemory>
+        requires from { n < length self.old.config.modes }
+        requires to { to < length self.old.config.modes }
+        requires built { IfSome message IsBuiltMessage }
+        ensures after { OnOk result (self.new ≡ posted n (posting_of to message) self.old) }
+        ensures config { self.new.config ≡ self.old.config }
+    {
+        if let Some(message) = message {
+            let links = &mut self.links[usize::from(n)];
+            links.push(to, message)?;
+        }
+        Ok(())
+    }
+
+    /// `deliver` and `repeat`: the message of a number from n to m arrives; where it is repeated it stays in its place.
+    pub(super) fn deliver(&mut self, n: u8, m: u8, number: u16, repeats: bool) -> Result<Answer, NoMemory>
+        requires from { n < length self.old.config.modes }
+        requires to { m < length self.old.config.modes }
+        requires number { 1 ≤ number }
+        ensures answer { IfOk result (λ a. a ≡ (apart self.old n m (plan_of_deliver self.old n m number repeats)).answer) }
+        ensures after { OnOk result (self.new ≡ (apart self.old n m (plan_of_deliver self.old n m number repeats)).after) }
+        ensures refused { IfOk result (λ a. (why : Refusal) → a ≡ Answer.No why → leaves_message why ≡ true → self.new ≡ self.old) }
+        ensures config { OnOk result (self.new.config ≡ self.old.config) }
+    {
+        let answer = self.deliver_message(n, m, number, repeats)?;
+        Ok(answer)
+    }
+
+    /// The same; each message that may arrive is one of those that are sent so far.
+    #[tactic(auto, unfolding(ag_rules::specs::DeliverEvent::plan_of_deliver))]
+    fn deliver_message(&mut self, n: u8, m: u8, number: u16, repeats: bool) -> Result<Answer, NoMemory>
+        requires from { n < length self.old.config.modes }
+        requires to { m < length self.old.config.modes }
+        requires number { 1 ≤ number }
+        ensures answer { IfOk result (λ a. a ≡ (apart self.old n m (plan_of_deliver self.old n m number repeats)).answer) }
+        ensures after { OnOk result (self.new ≡ (apart self.old n m (plan_of_deliver self.old n m number repeats)).after) }
+        ensures built { OnOk result ((message : Message) → (n == m) ≡ false → slice_get (link self.old n m) (number - 1) ≡ Some message → IsBuiltMessage message) }
+        ensures config { OnOk result (self.new.config ≡ self.old.config) }
+    {
+        if n == m {
+            return Ok(Answer::No(Refusal::Nothing));
+        }
+        let full = self.is_full(m, n);
+        let Some((answer, reply)) = self.arrives(n, m, number, full)? else {
+            return Ok(Answer::No(Refusal::NoMessage { node: n, to: m }));
+        };
+        if !repeats && !leaves(&answer) {
+            self.take(n, m, number);
+        }
+        self.post(m, n, reply)?;
+        Ok(answer)
+    }
+
+    /// What the message of a number from n does at m, if there is one.
+    fn arrives(
+        &mut self,
+        n: u8,
+        m: u8,
+        number: u16,
+        full: bool,
+    ) -> Result<Option<(Answer, Option<Message>)>, NoMemory>
+        requires from { n < length self.old.config.modes }
+        requires to { m < length self.old.config.modes }
+        ensures part { IfOk result (IsArrival self.old self.new n m number full) }
+        ensures built { IfOk result (λ found. IfSome found (λ x. IfSome x.1 IsBuiltMessage)) }
+        ensures config { self.new.config ≡ self.old.config }
+    {
+        let site = self.site(m);
+        let Some(message) = self.links[usize::from(n)].message(m, number) else {
+            return Ok(None);
+        };
+        let node = &mut self.nodes[usize::from(m)];
+        let told = arrive(node, &site, n, full, message)?;
+        Ok(Some(told))
+    }
+
+    /// Takes the message of a number out of the link from n to m.
+    fn take(&mut self, n: u8, m: u8, number: u16)
+        requires from { n < length self.old.config.modes }
+        requires to { m < length self.old.config.modes }
+        requires number { 1 ≤ number }
+        ensures after { self.new ≡ taken self.old n m number }
+        ensures config { self.new.config ≡ self.old.config }
+    {
+        let links = &mut self.links[usize::from(n)];
+        links.remove(m, number);
+    }
+
+    /// `lose`: the message of a number from n to m is lost.
+    #[tactic(auto, unfolding(ag_rules::specs::DeliverEvent::plan_of_lose))]
+    pub(super) fn lose(&mut self, n: u8, m: u8, number: u16) -> Answer
+        requires from { n < length self.old.config.modes }
+        requires to { m < length self.old.config.modes }
+        requires number { 1 ≤ number }
+        ensures answer { result ≡ (apart self.old n m (plan_of_lose self.old n m number)).answer }
+        ensures after { self.new ≡ (apart self.old n m (plan_of_lose self.old n m number)).after }
+        ensures config { self.new.config ≡ self.old.config }
+    {
+        if n == m {
+            return Answer::No(Refusal::Nothing);
+        }
+        if !self.has_message(n, m, number) {
+            return Answer::No(Refusal::NoMessage { node: n, to: m });
+        }
+        self.take(n, m, number);
+        Answer::Lost
+    }
+
+    /// Whether there is a message of a number from n to m.
+    fn has_message(&self, n: u8, m: u8, number: u16) -> bool
+        requires from { n < length self.now.config.modes }
+        requires to { m < length self.now.config.modes }
+        ensures { result ≡ is_some (slice_get (link self.now n m) (number - 1)) }
+    {
+        self.links[usize::from(n)].message(m, number).is_some()
+    }
+}
+
+/// What a message from a replica, the link back to which may be full, does at a node.
+#[tactic(auto, unfolding(ag_rules::specs::BlockMessage::block_part))]
+fn arrive(
+    node: &mut Node,
+    site: &Site,
+    from: u8,
+    full: bool,
+    message: &Message,
+) -> Result<(Answer, Option<Message>), NoMemory>
+    requires { IsBuiltMessage message.now }
+    ensures answer { IfOk result (λ x. x.0 ≡ (message_part (here_at site.now) from node.old full message.now).answer) }
+    ensures out { IfOk result (λ x. posting_of from x.1 ≡ (message_part (here_at site.now) from node.old full message.now).out) }
+    ensures built { IfOk result (λ x. IfSome x.1 IsBuiltMessage) }
+    ensures after { OnOk result (node.new ≡ (message_part (here_at site.now) from node.old full message.now).after) }
+    ensures pages { length node.new.pages ≡ length node.old.pages }
+{
+    if !node.is_up() {
+        return Ok((Answer::No(Refusal::Down { node: site.number }), None));
+    }
+    match &message.body {
+        Body::Block(block) => node.block(site, from, full, message.term, block),
+        Body::Ack { hardened, low } => {
+            let answer = node.acknowledge(from, message.term, *hardened, *low);
+            Ok((answer, None))
+        }
+        _ => unreachable!(),
+    }
+}
+
+/// Whether a message that is answered so stays in its place.
+fn leaves(answer: &Answer) -> bool
+    ensures { result ≡ leaves answer.now }
+{
+    matches!(
+        answer,
+        Answer::No(
+            Refusal::Gap { .. }
+                | Refusal::Wait { .. }
+                | Refusal::LinkFull { .. }
+                | Refusal::LogFull { .. }
+                | Refusal::Spent
+        )
+    )
+}

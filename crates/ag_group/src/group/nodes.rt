@@ -1,0 +1,134 @@
+//! The events of one node.
+ghost use Rattle.std.specs.Prelude.{◌≡◌, ◌<◌, ◌≤◌, IfOk, OnOk, length};
+ghost use Rattle.ag_rules.specs.Group.{replica};
+ghost use Rattle.ag_rules.specs.Plan.{here, at_node};
+ghost use Rattle.ag_rules.specs.SetEvent.{set_part};
+ghost use Rattle.ag_rules.specs.HardenEvent.{harden_part};
+ghost use Rattle.ag_rules.specs.ApplyEvent.{apply_part};
+ghost use Rattle.ag_rules.specs.RaiseEvent.{raise_part};
+ghost use Rattle.ag_rules.specs.RedoEvent.{redo_part};
+ghost use Rattle.ag_rules.specs.ReadEvent.{read_part};
+ghost use Rattle.ag_rules.specs.Next.{at_session, token, token_after};
+ghost use Rattle.ag_rules.specs.Checks.{token_or_none};
+
+use super::Group;
+use ag_model::answer::Answer;
+use ag_model::config::Token;
+use ag_model::event::PairList;
+use ag_model::value::NoMemory;
+use std::alloc::Global;
+
+impl Group {
+    /// `set`: a whole transaction of these puts.
+    #[tactic(auto, unfolding(ag_rules::specs::SetEvent::set_part))]
+    pub(super) fn set(&mut self, alloc: Global, n: u8, pairs: &PairList) -> Result<Answer, NoMemory>
+        requires node { n < length self.old.config.modes }
+        requires few { length pairs.now ≤ 8 }
+        ensures answer { IfOk result (λ a. a ≡ (at_node self.old n (set_part (here self.old n) (replica self.old n) pairs.now)).answer) }
+        ensures after { OnOk result (self.new ≡ (at_node self.old n (set_part (here self.old n) (replica self.old n) pairs.now)).after) }
+        ensures config { OnOk result (self.new.config ≡ self.old.config) }
+    {
+        let site = self.site(n);
+        let node = &mut self.nodes[usize::from(n)];
+        let answer = node.set(alloc, &site, pairs)?;
+        Ok(answer)
+    }
+
+    /// `harden`: the buffer becomes a block.
+    #[tactic(auto, unfolding(ag_rules::specs::HardenEvent::harden_part))]
+    pub(super) fn harden(&mut self, n: u8) -> Result<Answer, NoMemory>
+        requires node { n < length self.old.config.modes }
+        ensures answer { IfOk result (λ a. a ≡ (at_node self.old n (harden_part (here self.old n) (replica self.old n))).answer) }
+        ensures after { OnOk result (self.new ≡ (at_node self.old n (harden_part (here self.old n) (replica self.old n))).after) }
+        ensures config { OnOk result (self.new.config ≡ self.old.config) }
+    {
+        let site = self.site(n);
+        let node = &mut self.nodes[usize::from(n)];
+        let answer = node.harden(&site)?;
+        Ok(answer)
+    }
+
+    /// `apply`: a stripe goes through the next block of the log.
+    #[tactic(auto, unfolding(ag_rules::specs::ApplyEvent::apply_part))]
+    pub(super) fn apply(&mut self, n: u8, stripe: u8) -> Answer
+        requires node { n < length self.old.config.modes }
+        requires stripe { stripe < 16 }
+        ensures answer { result ≡ (at_node self.old n (apply_part (here self.old n) (replica self.old n) stripe)).answer }
+        ensures after { self.new ≡ (at_node self.old n (apply_part (here self.old n) (replica self.old n) stripe)).after }
+        ensures config { self.new.config ≡ self.old.config }
+    {
+        let site = self.site(n);
+        let node = &mut self.nodes[usize::from(n)];
+        node.apply(&site, stripe)
+    }
+
+    /// `raise`: a stripe publishes what it has redone.
+    #[tactic(auto, unfolding(ag_rules::specs::RaiseEvent::raise_part))]
+    pub(super) fn raise(&mut self, n: u8, stripe: u8) -> Answer
+        requires node { n < length self.old.config.modes }
+        requires stripe { stripe < 16 }
+        ensures answer { result ≡ (at_node self.old n (raise_part (here self.old n) (replica self.old n) stripe)).answer }
+        ensures after { self.new ≡ (at_node self.old n (raise_part (here self.old n) (replica self.old n) stripe)).after }
+        ensures config { self.new.config ≡ self.old.config }
+    {
+        let site = self.site(n);
+        let node = &mut self.nodes[usize::from(n)];
+        node.raise(&site, stripe)
+    }
+
+    /// `redo`: every stripe is applied to the end and raised.
+    #[tactic(auto, unfolding(ag_rules::specs::RedoEvent::redo_part))]
+    pub(super) fn redo(&mut self, n: u8) -> Answer
+        requires node { n < length self.old.config.modes }
+        ensures answer { result ≡ (at_node self.old n (redo_part (here self.old n) (replica self.old n))).answer }
+        ensures after { self.new ≡ (at_node self.old n (redo_part (here self.old n) (replica self.old n))).after }
+        ensures config { self.new.config ≡ self.old.config }
+    {
+        let site = self.site(n);
+        let node = &mut self.nodes[usize::from(n)];
+        node.redo(&site)
+    }
+
+    /// `read`: the row at the front of a replica, for a session.
+    pub(super) fn read(&mut self, n: u8, s: u8, key: u32) -> Answer
+        requires node { n < length self.old.config.modes }
+        requires session { s < 64 }
+        ensures answer { result ≡ (at_session self.old n s (read_part (here self.old n) (replica self.old n) (token self.old s) key)).answer }
+        ensures after { self.new ≡ (at_session self.old n s (read_part (here self.old n) (replica self.old n) (token self.old s) key)).after }
+        ensures config { self.new.config ≡ self.old.config }
+    {
+        let site = self.site(n);
+        let old = self.tokens[usize::from(s)];
+        let token = token_or_none(old);
+        let node = &self.nodes[usize::from(n)];
+        let answer = node.read(&site, &token, key);
+        let term = node.term();
+        self.tokens[usize::from(s)] = token_after(term, &answer, old);
+        answer
+    }
+}
+
+/// A session's token, or one that has seen nothing.
+fn token_or_none(token: Option<Token>) -> Token
+    ensures { result ≡ token_or_none token }
+{
+    match token {
+        Some(token) => token,
+        None => Token { term: 0, lsn: 0 },
+    }
+}
+
+/// The token that an answer of a node in this term leaves.
+fn token_after(term: u64, answer: &Answer, old: Option<Token>) -> Option<Token>
+    ensures { result ≡ token_after term answer.now old }
+{
+    match answer {
+        Answer::Row {
+            front: lsn,
+            value: _,
+        }
+        | Answer::Absent { front: lsn }
+        | Answer::Snap { front: lsn } => Some(Token { term, lsn: *lsn }),
+        _ => old,
+    }
+}
