@@ -162,7 +162,7 @@ impl Group {
                 suffix: _,
             } => {
                 let n = self.named(node);
-                let answer = self.read(n, *session, *key);
+                let answer = self.read(alloc, n, *session, *key)?;
                 Ok(answer)
             }
             _ => unreachable!(),

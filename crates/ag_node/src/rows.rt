@@ -1,72 +1,81 @@
 //! The row of a key, and the horizon of a page, after a prefix of a log.
-ghost use Rattle.std.specs.Prelude.{◌≡◌, ◌≤◌, length, max};
-ghost use Rattle.std.specs.List.{fold};
+ghost use Rattle.std.specs.Prelude.{◌≡◌, ◌≤◌, ℕ, length, IfOk, OnOk, nat_eq};
+ghost use Rattle.std.specs.HashMap.{get};
 ghost use Rattle.ag_model.specs.Rows.{rows};
 ghost use Rattle.ag_model.specs.Page.{value};
-ghost use Rattle.ag_node.specs.Folded.{row_by, row_by_commit, horizon_after};
+ghost use Rattle.ag_node.specs.Folded.{change_of, left_after, left_by, row_with, horizon_after};
 
 use ag_model::record::Record;
-use ag_model::value::Row;
+use ag_model::value::{NoMemory, Row};
+use std::alloc::Global;
+use std::collections::HashMap;
 
-/// The row after one record of a transaction.
-fn after_record(entry: &Record, txn: u64, key: u32, before: Row) -> Row
-    ensures { result ≡ row_by txn key before entry.now }
+/// The transaction that changes a key by a record, and the row that it leaves.
+fn change_of(entry: &Record, key: u32) -> Option<(u64, Row)>
+    ensures { result ≡ change_of key entry.now }
 {
     match entry {
         Record::Put {
-            txn: own,
+            txn,
             key: at,
             value,
-        } => {
-            if txn == *own && key == *at {
-                Row::Found(*value)
-            } else {
-                before
-            }
-        }
-        Record::Del { txn: own, key: at } => {
-            if txn == *own && key == *at {
-                Row::Absent
-            } else {
-                before
-            }
-        }
-        _ => before,
+        } if key == *at => Some((*txn, Row::Found(*value))),
+        Record::Del { txn, key: at } if key == *at => Some((*txn, Row::Absent)),
+        _ => None,
     }
 }
 
-/// The row after the Puts and Dels of a transaction.
-fn after_txn(seen: &[Record], txn: u64, key: u32, before: Row) -> Row
-    ensures { result ≡ fold (row_by txn key) before seen.now }
+/// Takes one change more into what each transaction leaves.
+fn keep(left: &mut HashMap<u64, Row>, change: Option<(u64, Row)>) -> Result<(), NoMemory>
+    ensures { OnOk result ((txn : ℕ) → get nat_eq left.new txn ≡ left_after txn (get nat_eq left.old txn) change) }
 {
-    let mut row = before;
-    for entry in seen {
-        row = after_record(entry, txn, key, row);
+    let Some((txn, row)) = change else {
+        return Ok(());
+    };
+    if left.insert(txn, row).is_err() {
+        return Err(NoMemory);
     }
-    row
+    Ok(())
 }
 
-/// The row after one record of the log, where that is a Commit.
-fn after_commit(seen: &[Record], entry: &Record, key: u32, before: Row) -> Row
-    ensures { result ≡ row_by_commit seen.now key before entry.now }
+/// The row that each transaction's last change of a key leaves.
+fn rows_left(alloc: Global, seen: &[Record], key: u32) -> Result<HashMap<u64, Row>, NoMemory>
+    ensures { IfOk result (λ left. (txn : ℕ) → get nat_eq left txn ≡ left_by key seen.now txn) }
+{
+    let mut left = HashMap::new(alloc);
+    for entry in seen {
+        keep(&mut left, change_of(entry, key))?;
+    }
+    Ok(left)
+}
+
+/// The row after one record of the log, where it is known what each transaction leaves.
+fn after_record(left: &HashMap<u64, Row>, entry: &Record, before: Row) -> Row
+    ensures { result ≡ row_with (get nat_eq left.now) before entry.now }
 {
     match entry {
-        Record::Commit { txn, pages: _ } => after_txn(seen, *txn, key, before),
+        Record::Commit { txn, pages: _ } => left.get(txn).copied().unwrap_or(before),
         _ => before,
     }
 }
 
-/// The row of a key after the first records of a log.
-pub(crate) fn row_at(log: &[Record], front: usize, key: u32) -> Row
+/// The row of a key after the first records of a log. It takes time in their number.
+pub(crate) fn row_at(
+    alloc: Global,
+    log: &[Record],
+    front: usize,
+    key: u32,
+) -> Result<Row, NoMemory>
     requires { front ≤ length log.now }
-    ensures { result ≡ rows log.now front key }
+    ensures { IfOk result (λ row. row ≡ rows log.now front key) }
 {
     let seen = &log[..front];
+    let left = rows_left(alloc, seen, key)?;
     let mut row = Row::Absent;
     for entry in seen {
-        row = after_commit(seen, entry, key, row);
+        row = after_record(&left, entry, row);
     }
-    row
+    Ok(row)
 }
 
 /// The horizon of a page after one record, an LSN.
@@ -147,8 +156,8 @@ mod tests {
             (6, Row::Found(value(170)), 4),
             (7, Row::Absent, 4),
         ] {
-            assert_eq!(rt; row_at(&log, front, 5), row, "after {front}");
-            assert_eq!(rt; row_at(&log, front, 6), Row::Absent, "after {front}");
+            assert_eq!(rt; row_at(alloc, &log, front, 5)?, row, "after {front}");
+            assert_eq!(rt; row_at(alloc, &log, front, 6)?, Row::Absent, "after {front}");
             assert_eq!(rt; horizon_at(16, &log, front, 21), horizon, "after {front}");
             assert_eq!(rt; horizon_at(16, &log, front, 22), 0, "after {front}");
         }

@@ -90,21 +90,21 @@ impl Group {
     }
 
     /// `read`: the row at the front of a replica, for a session.
-    pub(super) fn read(&mut self, n: u8, s: u8, key: u32) -> Answer
+    pub(super) fn read(&mut self, alloc: Global, n: u8, s: u8, key: u32) -> Result<Answer, NoMemory>
         requires node { n < length self.old.config.modes }
         requires session { s < 64 }
-        ensures answer { result ≡ (at_session self.old n s (read_part (here self.old n) (replica self.old n) (token self.old s) key)).answer }
-        ensures after { self.new ≡ (at_session self.old n s (read_part (here self.old n) (replica self.old n) (token self.old s) key)).after }
-        ensures config { self.new.config ≡ self.old.config }
+        ensures answer { IfOk result (λ a. a ≡ (at_session self.old n s (read_part (here self.old n) (replica self.old n) (token self.old s) key)).answer) }
+        ensures after { OnOk result (self.new ≡ (at_session self.old n s (read_part (here self.old n) (replica self.old n) (token self.old s) key)).after) }
+        ensures config { OnOk result (self.new.config ≡ self.old.config) }
     {
         let site = self.site(n);
         let old = self.tokens[usize::from(s)];
         let token = token_or_none(old);
         let node = &self.nodes[usize::from(n)];
-        let answer = node.read(&site, &token, key);
+        let answer = node.read(alloc, &site, &token, key)?;
         let term = node.term();
         self.tokens[usize::from(s)] = token_after(term, &answer, old);
-        answer
+        Ok(answer)
     }
 }
 

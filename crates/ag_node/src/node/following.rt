@@ -7,7 +7,7 @@ ghost use Rattle.ag_rules.specs.Redo.{touched_up_to};
 ghost use Rattle.ag_rules.specs.RedoEvent.{redo_part, redoes_touching};
 ghost use Rattle.ag_rules.specs.ApplyEvent.{apply_part, applies_touching, next_of_stripe, touched_in_stripe};
 ghost use Rattle.ag_rules.specs.RaiseEvent.{raise_part, raised};
-ghost use Rattle.ag_rules.specs.ReadEvent.{read_part, reads_at};
+ghost use Rattle.ag_rules.specs.ReadEvent.{read_part, reads_at, row_answer};
 ghost use Rattle.ag_rules.specs.Messages.{ack_message};
 ghost use Rattle.ag_rules.specs.BlockMessage.{block_part};
 ghost use Rattle.ag_built.specs.Built.{IsBuiltMessage};
@@ -26,6 +26,7 @@ use ag_model::config::Token;
 use ag_model::message::{Block, Body, Message};
 use ag_model::record::{Record, RecordList};
 use ag_model::value::{NoMemory, Row};
+use std::alloc::Global;
 
 impl Node {
     /// `redo` at this replica: every stripe is applied to the end and raised.
@@ -141,35 +142,42 @@ impl Node {
 
     /// `read` at this replica, for a session with this token.
     #[tactic(auto, unfolding(ag_rules::specs::ReadEvent::read_part))]
-    pub fn read(&self, site: &Site, token: &Token, key: u32) -> Answer
+    pub fn read(
+        &self,
+        alloc: Global,
+        site: &Site,
+        token: &Token,
+        key: u32,
+    ) -> Result<Answer, NoMemory>
         requires pages { site.now.pages ≡ length self.now.pages }
-        ensures answer { result ≡ (read_part (here_at site.now) self.now token.now key).answer }
-        ensures left { (read_part (here_at site.now) self.now token.now key).after ≡ self.now }
+        ensures answer { IfOk result (λ a. a ≡ (read_part (here_at site.now) self.now token.now key).answer) }
+        ensures left { OnOk result ((read_part (here_at site.now) self.now token.now key).after ≡ self.now) }
     {
         if self.leads() {
-            return Answer::No(Refusal::NotSecondary { node: site.number });
+            return Ok(Answer::No(Refusal::NotSecondary { node: site.number }));
         }
         if TERM < token.term {
-            return Answer::No(Refusal::OldTerm {
+            return Ok(Answer::No(Refusal::OldTerm {
                 term: TERM,
                 seen: token.term,
-            });
+            }));
         }
         let front = self.front();
         if TERM == token.term && front < token.lsn {
-            return Answer::No(Refusal::Behind {
+            return Ok(Answer::No(Refusal::Behind {
                 front,
                 seen: token.lsn,
-            });
+            }));
         }
-        self.row_at_front(site, key)
+        let answer = self.row_at_front(alloc, site, key)?;
+        Ok(answer)
     }
 
     /// The row of a key at the front, where its page allows it.
-    fn row_at_front(&self, site: &Site, key: u32) -> Answer
+    fn row_at_front(&self, alloc: Global, site: &Site, key: u32) -> Result<Answer, NoMemory>
         requires pages { site.now.pages ≡ length self.now.pages }
-        ensures answer { result ≡ (reads_at (here_at site.now) self.now (front self.now) key).answer }
-        ensures left { (reads_at (here_at site.now) self.now (front self.now) key).after ≡ self.now }
+        ensures answer { IfOk result (λ a. a ≡ (reads_at (here_at site.now) self.now (front self.now) key).answer) }
+        ensures left { OnOk result ((reads_at (here_at site.now) self.now (front self.now) key).after ≡ self.now) }
     {
         let records = self.log.records();
         let front = self.stripes.front();
@@ -177,15 +185,13 @@ impl Node {
         let applied = self.stripes.applied((page % 16) as u8);
         let horizon = horizon_at(site.pages, records, applied as usize, page);
         if front < horizon {
-            return Answer::No(Refusal::TooOld {
+            return Ok(Answer::No(Refusal::TooOld {
                 snapshot: front,
                 horizon,
-            });
+            }));
         }
-        match row_at(records, front as usize, key) {
-            Row::Found(value) => Answer::Row { front, value },
-            Row::Absent => Answer::Absent { front },
-        }
+        let row = row_at(alloc, records, front as usize, key)?;
+        Ok(row_answer(front, row))
     }
 
     /// A block comes from a replica, the link back to which may be full: it is hardened where it is the next one.
@@ -266,5 +272,15 @@ impl Node {
                 low: self.stripes.front(),
             },
         }
+    }
+}
+
+/// A row at a front, as a session is answered.
+fn row_answer(front: u64, row: Row) -> Answer
+    ensures { result ≡ row_answer front row }
+{
+    match row {
+        Row::Found(value) => Answer::Row { front, value },
+        Row::Absent => Answer::Absent { front },
     }
 }

@@ -19,8 +19,8 @@ returns-clause-answer c =
     let place : c.args.s < length c.self.inside.tokens.items = omega (arith, c.self.invariant.tokens, c.requires.session) in
     let at_s : c.index-old.result.now ≡ get_or g.tokens c.args.s None = get_or_read g.tokens c.args.s c.index-old.result.now place (c.index-old.ensures ∙ ap (λ (k : ℕ). get_or g.tokens k c.index-old.result.now) c.from.ensures) None in
     let seen_is : seen ≡ token g c.args.s = c.token_or_none-token.ensures ∙ ap token_or_none at_s in
-    told (λ h r. read_part h r seen c.args.key) (read_free seen c.args.key) g c.args.self.now c.args.n c.from-2.result c.site-site.result c.index-node.result.now c.read-answer.result within
-    c.site-site.ensures.number (c.site-site.ensures.pages ∙ ap (λ (g : Group). g.config.pages) (sym c.self.view_is)) (c.site-site.ensures.store ∙ ap (λ (g : Group). g.register) (sym c.self.view_is)) c.from-2.ensures c.index-node.ensures c.read-answer.ensures.answer c.self.view_is
+    told (λ h r. read_part h r seen c.args.key) (read_free seen c.args.key) g c.args.self.now c.args.n c.from-2.result c.site-site.result c.index-node.result.now c.in_ok-answer.answer within
+    c.site-site.ensures.number (c.site-site.ensures.pages ∙ ap (λ (g : Group). g.config.pages) (sym c.self.view_is)) (c.site-site.ensures.store ∙ ap (λ (g : Group). g.register) (sym c.self.view_is)) c.from-2.ensures c.index-node.ensures c.in_ok-answer.ensures.answer c.self.view_is
     ∙ (λ i. (read_part (here c.args.self.now c.args.n) (replica c.args.self.now c.args.n) ((seen_is ∙ ap (λ (g : Group). token g c.args.s) c.self.view_is) i) c.args.key).answer)
 
 pub returns-clause-after : goal.returns-clause-after
@@ -31,7 +31,7 @@ returns-clause-after c =
     let place : c.args.s < length c.self.inside.tokens.items = omega (arith, c.self.invariant.tokens, c.requires.session) in
     let at_s : c.index-old.result.now ≡ get_or g.tokens c.args.s None = get_or_read g.tokens c.args.s c.index-old.result.now place (c.index-old.ensures ∙ ap (λ (k : ℕ). get_or g.tokens k c.index-old.result.now) c.from.ensures) None in
     let seen_is : seen ≡ token g c.args.s = c.token_or_none-token.ensures ∙ ap token_or_none at_s in
-    session_lifted (λ h r. read_part h r seen c.args.key) (read_free seen c.args.key) (read_quiet seen c.args.key) g c.args.self.now c.args.n c.from-2.result c.args.s c.from-3.result c.site-site.result c.index-node.result.now c.index-old.result.now c.token_after.result c.read-answer.result c.term-term.result within
+    session_lifted (λ h r. read_part h r seen c.args.key) (read_free seen c.args.key) (read_quiet seen c.args.key) g c.args.self.now c.args.n c.from-2.result c.args.s c.from-3.result c.site-site.result c.index-node.result.now c.index-old.result.now c.token_after.result c.in_ok-answer.answer c.term-term.result within
     c.site-site.ensures.number (c.site-site.ensures.pages ∙ ap (λ (g : Group). g.config.pages) (sym c.self.view_is)) (c.site-site.ensures.store ∙ ap (λ (g : Group). g.register) (sym c.self.view_is)) c.from-2.ensures c.index-node.ensures
-    c.read-answer.ensures.left c.read-answer.ensures.answer at_s c.term-term.ensures c.token_after.ensures c.from-3.ensures c.self.view_is
+    c.in_ok-answer.ensures.left c.in_ok-answer.ensures.answer at_s c.term-term.ensures c.token_after.ensures c.from-3.ensures c.self.view_is
     ∙ (λ i. (at_session c.args.self.now c.args.n c.args.s (read_part (here c.args.self.now c.args.n) (replica c.args.self.now c.args.n) ((seen_is ∙ ap (λ (g : Group). token g c.args.s) c.self.view_is) i) c.args.key)).after)

@@ -35,10 +35,10 @@ returns-in-Redo-clause-refused c =
     let g : Group = c.args.self.now in
     left_by c.args.event.now leaves_node g c.redo-answer.new.self (at_node g c.named-n-in-Redo.result (redo_part (here g c.named-n-in-Redo.result) (replica g c.named-n-in-Redo.result))) c.redo-answer.result (λ why. ap (λ (e : Event). leaves_group e why) c.in-Redo.is) c.redo-answer.ensures.answer c.redo-answer.ensures.after (redo_left g c.named-n-in-Redo.result)
 
-pub returns-in-Read-clause-refused : goal.returns-in-Read-clause-refused
-returns-in-Read-clause-refused c =
+pub returns-in_ok-answer-in-Read-clause-refused : goal.returns-in_ok-answer-in-Read-clause-refused
+returns-in_ok-answer-in-Read-clause-refused c =
     let g : Group = c.args.self.now in
-    left_by c.args.event.now leaves_node g c.read-answer.new.self (at_session g c.named-n-in-Read.result c.in-Read.session (read_part (here g c.named-n-in-Read.result) (replica g c.named-n-in-Read.result) (token g c.in-Read.session) c.in-Read.key)) c.read-answer.result (λ why. ap (λ (e : Event). leaves_group e why) c.in-Read.is) c.read-answer.ensures.answer c.read-answer.ensures.after (read_left g c.named-n-in-Read.result c.in-Read.session c.in-Read.key)
+    left_by c.args.event.now leaves_node g c.read.new.self (at_session g c.named-n-in-Read.result c.in-Read.session (read_part (here g c.named-n-in-Read.result) (replica g c.named-n-in-Read.result) (token g c.in-Read.session) c.in-Read.key)) c.in_ok-answer-in-Read.answer (λ why. ap (λ (e : Event). leaves_group e why) c.in-Read.is) c.in_ok-answer-in-Read.ensures.answer c.in_ok-answer-in-Read.ensures.after (read_left g c.named-n-in-Read.result c.in-Read.session c.in-Read.key)
 
 pub returns-in-Apply-clause-refused : goal.returns-in-Apply-clause-refused
 returns-in-Apply-clause-refused c =

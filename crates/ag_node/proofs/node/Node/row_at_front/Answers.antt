@@ -2,7 +2,6 @@ use Rattle.std.proofs.Common.{◌≡◌, ◌+◌, ◌%◌, length, get_or, sym, 
 use Rattle.ag_model.specs.Page.{value}
 use Rattle.ag_model.specs.Rows.{rows}
 use Rattle.ag_rules.specs.Replica.{no_stripe}
-use Rattle.ag_rules.specs.ReadEvent.{row_answer}
 use Rattle.ag_node.specs.Sites.{here_at}
 use Rattle.ag_node.proofs.NodeSteps.{IsHorizon, read_too_old, read_row, read_left, front_within}
 use Rattle.ag_node.proofs.node.Node.row_at_front.Goals as goal
@@ -20,41 +19,24 @@ returns-then-front-horizon-clause-answer c =
     } in
     read_too_old n.leads n.log n.stripes n.dirty.items n.buffer n.last_txn n.synced n.peers.items c.args.self.now (here_at c.args.site.now) c.args.key c.front-front.result c.horizon_at-horizon.result c.self.view_is c.front-front.ensures horizon c.if-front-horizon.true
 
-pub returns-in-Found-clause-answer : goal.returns-in-Found-clause-answer
-returns-in-Found-clause-answer c =
+pub returns-clause-answer : goal.returns-clause-answer
+returns-clause-answer c =
     let n = c.self.inside in
     let horizon : IsHorizon n.stripes n.log (here_at c.args.site.now) c.args.key c.horizon_at-horizon.result = record {
       applied = c.applied-applied.result;
       stands = c.applied-applied.ensures ∙ (λ i. (get_or n.stripes ((16 + c.args.key % c.from.ensures i) % 16) no_stripe).applied);
       is = c.horizon_at-horizon.ensures ∙ (λ i. (value c.args.site.now.pages (c.records-records.ensures i) c.applied-applied.result (16 + c.args.key % c.from.ensures i)).horizon);
     } in
-    sym (ap (row_answer c.front-front.result) c.in-Found.is)
-    ∙ read_row n.leads n.log n.stripes n.dirty.items n.buffer n.last_txn n.synced n.peers.items c.args.self.now (here_at c.args.site.now) c.args.key c.front-front.result c.horizon_at-horizon.result c.row_at.result
-    c.self.view_is c.front-front.ensures horizon c.if-front-horizon.false (c.row_at.ensures ∙ (λ i. rows (c.records-records.ensures i) c.front-front.result c.args.key))
-
-pub returns-in-Absent-clause-answer : goal.returns-in-Absent-clause-answer
-returns-in-Absent-clause-answer c =
-    let n = c.self.inside in
-    let horizon : IsHorizon n.stripes n.log (here_at c.args.site.now) c.args.key c.horizon_at-horizon.result = record {
-      applied = c.applied-applied.result;
-      stands = c.applied-applied.ensures ∙ (λ i. (get_or n.stripes ((16 + c.args.key % c.from.ensures i) % 16) no_stripe).applied);
-      is = c.horizon_at-horizon.ensures ∙ (λ i. (value c.args.site.now.pages (c.records-records.ensures i) c.applied-applied.result (16 + c.args.key % c.from.ensures i)).horizon);
-    } in
-    sym (ap (row_answer c.front-front.result) c.in-Absent.is)
-    ∙ read_row n.leads n.log n.stripes n.dirty.items n.buffer n.last_txn n.synced n.peers.items c.args.self.now (here_at c.args.site.now) c.args.key c.front-front.result c.horizon_at-horizon.result c.row_at.result
-    c.self.view_is c.front-front.ensures horizon c.if-front-horizon.false (c.row_at.ensures ∙ (λ i. rows (c.records-records.ensures i) c.front-front.result c.args.key))
+    c.row_answer.ensures
+    ∙ read_row n.leads n.log n.stripes n.dirty.items n.buffer n.last_txn n.synced n.peers.items c.args.self.now (here_at c.args.site.now) c.args.key c.front-front.result c.horizon_at-horizon.result c.in_ok-row.row
+    c.self.view_is c.front-front.ensures horizon c.if-front-horizon.false (c.in_ok-row.ensures ∙ (λ i. rows (c.records-records.ensures i) c.front-front.result c.args.key))
 
 pub returns-then-front-horizon-clause-left : goal.returns-then-front-horizon-clause-left
 returns-then-front-horizon-clause-left c =
     let n = c.self.inside in
     read_left n.leads n.log n.stripes n.dirty.items n.buffer n.last_txn n.synced n.peers.items c.args.self.now (here_at c.args.site.now) c.args.key c.self.view_is
 
-pub returns-in-Found-clause-left : goal.returns-in-Found-clause-left
-returns-in-Found-clause-left c =
-    let n = c.self.inside in
-    read_left n.leads n.log n.stripes n.dirty.items n.buffer n.last_txn n.synced n.peers.items c.args.self.now (here_at c.args.site.now) c.args.key c.self.view_is
-
-pub returns-in-Absent-clause-left : goal.returns-in-Absent-clause-left
-returns-in-Absent-clause-left c =
+pub returns-clause-left : goal.returns-clause-left
+returns-clause-left c =
     let n = c.self.inside in
     read_left n.leads n.log n.stripes n.dirty.items n.buffer n.last_txn n.synced n.peers.items c.args.self.now (here_at c.args.site.now) c.args.key c.self.view_is

@@ -1,0 +1,13 @@
+use Rattle.std.proofs.Common.{◌≡◌, ap, sym, ◌∙◌, take}
+use Rattle.std.specs.Prelude.{Option}
+use Rattle.ag_model.specs.declared.value.Row.{Row}
+use Rattle.ag_node.specs.Folded.{change_of, left_after, left_by}
+use Rattle.ag_node.proofs.Folds.{left_more}
+use Rattle.ag_node.proofs.rows.rows_left.Goals as goal
+
+pub loop-entry-preserved : goal.loop-entry-preserved
+loop-entry-preserved c txn =
+    let i = c.loop-entry.entry-index in
+    c.in_ok-keep.ensures txn
+    ∙ (λ j. left_after txn (c.loop-entry.invariant txn j) (c.change_of.ensures j))
+    ∙ sym (left_more c.args.key txn i c.args.seen.now c.entry-item.result c.loop-entry-test.true c.entry-item.is)
