@@ -1,0 +1,4 @@
+pub mod BlockEnds
+pub mod Members
+pub mod Least
+pub mod Events

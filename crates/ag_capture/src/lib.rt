@@ -1,0 +1,13 @@
+//! What a primary knows of its secondaries.
+#![tactic(auto)]
+
+mod ack;
+mod blocks;
+mod capture;
+pub mod laws;
+mod peer;
+#[cfg(test)]
+mod tests;
+
+pub use ack::{Kind, NotYet};
+pub use capture::Capture;
