@@ -1,62 +1,20 @@
 -- A field that is read is the field that was written, and what was written is read again.
-use Rattle.std.proofs.Common.{◌≡◌, ℕ, zero, suc, ◌-◌, ◌*◌, ◌^◌, ◌<◌, ◌≤◌, Bool, true, false, cond, ltb, leb, ◌&&◌, List, [], ◌∷◌, ◌++◌, length, take, drop, replicate, Result, Ok, Err, refl, sym, ap, subst, ◌∙◌, append_assoc, arith}
+use Rattle.std.proofs.Common.{◌≡◌, ℕ, zero, suc, ◌-◌, ◌*◌, ◌^◌, ◌<◌, ◌≤◌, true, false, cond, ltb, leb, ◌&&◌, List, [], ◌∷◌, ◌++◌, length, take, drop, replicate, Ok, Err, refl, sym, ap, subst, ◌∙◌, append_assoc, arith}
 use Rattle.std.specs.List.{flat_map, AllByRecursion}
-use Rattle.std.specs.Int.{Width, w16, byte_len, from_be_bytes, to_be_bytes}
+use Rattle.std.specs.Int.{w16, byte_len, to_be_bytes}
 use Rattle.std.proofs.lemmas.Bool.{ltb-true, ltb-false, lt-ltb, le-ltb}
 use Rattle.std.proofs.lemmas.Bool.Decides.{nat_tests}
 use Rattle.std.proofs.lemmas.List.{take_at, drop_at, take-append-drop, length-append, length-take, length-replicate}
 use Rattle.std.proofs.lemmas.List.Concat.{flat_map-cons}
 use Rattle.ag_model.specs.Bytes.{AreBytes}
 use Rattle.ag_model.specs.Proper.{RisesFrom}
-use Rattle.ag_model.proofs.Numbers.{length-to_be_bytes, AreBytes-drop, front_number-read, front_number-lt, front_number-written, after_number-written}
+use Rattle.ag_model.proofs.Numbers.{length-to_be_bytes, AreBytes-drop}
 use Rattle.ag_model.specs.declared.value.Value.{Value}
-use Rattle.ag_record.specs.declared.fault.RecordFault.{RecordFault}
 use Rattle.ag_record.specs.declared.fault.RecordFault.TheVariants.{Short, BadLength, BadPage, BadOrder}
 use Rattle.ag_record.specs.Spelling.{value_spelling, pages_spelling, IsValue, IsPage, ArePages}
-use Rattle.ag_record.specs.Reading.{◌>>=◌, number_at, value_of, value_at, is_page, pages_at, list_at}
-
--- a step that met no fault
-pub bind_ok : {A B : Type 0} (r : Result A RecordFault) (f : A → Result B RecordFault) (y : B) → (r >>= f) ≡ Ok y → (x : A) × (r ≡ Ok x) × (f x ≡ Ok y)
-bind_ok (Ok x) f y e = (x, refl, e)
-bind_ok (Err d) f y e = absurd cc
-
--- a test that met no fault
-pub unless_ok : {A : Type 0} (b : Bool) (d : RecordFault) (r : Result A RecordFault) (y : A) → cond b (Err d) r ≡ Ok y → (b ≡ false) × (r ≡ Ok y)
-unless_ok true d r y e = absurd cc
-unless_ok false d r y e = (refl, e)
-
-pub when_ok : {A : Type 0} (b : Bool) (d : RecordFault) (r : Result A RecordFault) (y : A) → cond b r (Err d) ≡ Ok y → (b ≡ true) × (r ≡ Ok y)
-when_ok true d r y e = (refl, e)
-when_ok false d r y e = absurd cc
-
-abbrev done : {A : Type 0} → A → Result A RecordFault
-done x = Ok x
-
-pub ok_is : {A : Type 0} (x y : A) → done x ≡ done y → x ≡ y
-ok_is x y e = cc
-
--- what a reader took from the front
-pub record Takes (bytes text rest : List ℕ) : Type 0 where
-  pub parts : bytes ≡ text ++ rest
-  pub left : AreBytes rest
-
-pub Takes-then : (a x b y c : List ℕ) → Takes a x b → Takes b y c → Takes a (x ++ y) c
-Takes-then a x b y c p q = record { parts = p.parts ∙ ap (λ (t : List ℕ). x ++ t) q.parts ∙ sym (append_assoc x y c); left = q.left }
-
--- ---- numbers
-
-pub number_takes : (w : Width) (bytes : List ℕ) (x : ℕ × List ℕ) → AreBytes bytes → number_at w bytes ≡ Ok x → Takes bytes (to_be_bytes w x.0) x.1 × (x.0 < 256 ^ byte_len w)
-number_takes w bytes x fits e =
-    let g = unless_ok (ltb (length bytes) (byte_len w)) Short (Ok (from_be_bytes w (take (byte_len w) bytes), drop (byte_len w) bytes)) x e in
-    let long : byte_len w ≤ length bytes = ltb-false _ _ g.0 in
-    subst (λ (y : ℕ × List ℕ). Takes bytes (to_be_bytes w y.0) y.1 × (y.0 < 256 ^ byte_len w)) (ok_is (from_be_bytes w (take (byte_len w) bytes), drop (byte_len w) bytes) x g.1)
-    (record { parts = front_number-read w bytes long fits; left = AreBytes-drop (byte_len w) bytes fits }, front_number-lt w bytes long fits)
-
-pub number_again : (w : Width) (n : ℕ) (rest : List ℕ) → n < 256 ^ byte_len w → number_at w (to_be_bytes w n ++ rest) ≡ Ok (n, rest)
-number_again w n rest lt =
-    let len = length-to_be_bytes w n in
-    let long : ltb (length (to_be_bytes w n ++ rest)) (byte_len w) ≡ false = le-ltb _ _ (omega (arith, length-append (to_be_bytes w n) rest)) in
-    rw (long, front_number-written w n rest lt, after_number-written w n rest) refl
+use Rattle.ag_record.specs.Steps.{◌>>=◌, number_at}
+use Rattle.ag_record.specs.Reading.{value_of, value_at, is_page, pages_at, list_at}
+use Rattle.ag_record.proofs.Steps.{bind_ok, unless_ok, when_ok, ok_is, Takes, Takes-then, number_takes, number_again}
 
 -- ---- values
 
@@ -77,9 +35,9 @@ value_of-text v is =
 pub value_takes : (bytes : List ℕ) (x : Value × List ℕ) → AreBytes bytes → value_at bytes ≡ Ok x → Takes bytes (value_spelling x.0) x.1 × IsValue x.0
 unfolding value_at
 value_takes bytes x fits e =
-    let a = bind_ok (number_at w16 bytes) (λ n. cond (ltb 64 n.0) (Err BadLength) (cond (ltb (length n.1) n.0) (Err Short) (Ok (value_of (take n.0 n.1), drop n.0 n.1)))) x e in
+    let a = bind_ok (number_at Short w16 bytes) (λ n. cond (ltb 64 n.0) (Err BadLength) (cond (ltb (length n.1) n.0) (Err Short) (Ok (value_of (take n.0 n.1), drop n.0 n.1)))) x e in
     let n = a.0 in
-    let t = number_takes w16 bytes n fits a.1 in
+    let t = number_takes Short w16 bytes n fits a.1 in
     let g = unless_ok (ltb 64 n.0) BadLength (cond (ltb (length n.1) n.0) (Err Short) (Ok (value_of (take n.0 n.1), drop n.0 n.1))) x a.2 in
     let h = unless_ok (ltb (length n.1) n.0) Short (Ok (value_of (take n.0 n.1), drop n.0 n.1)) x g.1 in
     let most : n.0 ≤ 64 = ltb-false _ _ g.0 in
@@ -101,7 +59,7 @@ value_again v rest is =
     let most : ltb 64 v.len ≡ false = le-ltb _ _ is.most in
     let fits : v.len < 256 ^ byte_len w16 = omega (arith, is.most) in
     ap value_at (append_assoc (to_be_bytes w16 v.len) text rest)
-    ∙ (rw (number_again w16 v.len (text ++ rest) fits, most, long, take_at text rest v.len len, drop_at text rest v.len len) (ap (λ (w : Value). Ok (w, rest)) (value_of-text v is)))
+    ∙ (rw (number_again Short w16 v.len (text ++ rest) fits, most, long, take_at text rest v.len len, drop_at text rest v.len len) (ap (λ (w : Value). Ok (w, rest)) (value_of-text v is)))
 
 -- ---- pages
 
@@ -118,9 +76,9 @@ pages_take zero low bytes x fits e =
     subst (λ (y : List ℕ × List ℕ). Takes bytes (flat_map (to_be_bytes w16) y.0) y.1 × (length y.0 ≡ 0) × AllByRecursion IsPage y.0 × RisesFrom low y.0) (ok_is ([], bytes) x e) (record { parts = refl; left = fits }, refl, tt, tt)
 pages_take (suc n) low bytes x fits e =
     let others = λ (page : ℕ × List ℕ). pages_at page.0 n page.1 >>= λ others. Ok (page.0 ∷ others.0, others.1) in
-    let a = bind_ok (number_at w16 bytes) (λ page. cond (is_page page.0) (cond (ltb low page.0) (others page) (Err BadOrder)) (Err BadPage)) x e in
+    let a = bind_ok (number_at Short w16 bytes) (λ page. cond (is_page page.0) (cond (ltb low page.0) (others page) (Err BadOrder)) (Err BadPage)) x e in
     let page = a.0 in
-    let first = number_takes w16 bytes page fits a.1 in
+    let first = number_takes Short w16 bytes page fits a.1 in
     let g = when_ok (is_page page.0) BadPage (cond (ltb low page.0) (others page) (Err BadOrder)) x a.2 in
     let h = when_ok (ltb low page.0) BadOrder (others page) x g.1 in
     let b = bind_ok (pages_at page.0 n page.1) (λ others. Ok (page.0 ∷ others.0, others.1)) x h.1 in
@@ -137,7 +95,7 @@ pages_again (page ∷ pages) low rest each rising =
     let regrouped : flat_map (to_be_bytes w16) (page ∷ pages) ++ rest ≡ to_be_bytes w16 page ++ (flat_map (to_be_bytes w16) pages ++ rest) = ap (λ (x : List ℕ). x ++ rest) (flat_map-cons (to_be_bytes w16) page pages) ∙ append_assoc (to_be_bytes w16 page) (flat_map (to_be_bytes w16) pages) rest in
     let fits : page < 256 ^ byte_len w16 = omega (arith, each.0) in
     ap (pages_at low (suc (length pages))) regrouped
-    ∙ (rw (number_again w16 page (flat_map (to_be_bytes w16) pages ++ rest) fits, IsPage-is_page page each.0, lt-ltb _ _ rising.0, pages_again pages page rest each.1 rising.1) refl)
+    ∙ (rw (number_again Short w16 page (flat_map (to_be_bytes w16) pages ++ rest) fits, IsPage-is_page page each.0, lt-ltb _ _ rising.0, pages_again pages page rest each.1 rising.1) refl)
 
 -- ---- lists of pages
 
@@ -157,9 +115,9 @@ length-pages (page ∷ pages) =
 pub list_takes : (bytes : List ℕ) (x : List ℕ × List ℕ) → AreBytes bytes → list_at bytes ≡ Ok x → Takes bytes (pages_spelling x.0) x.1 × ArePages x.0
 unfolding list_at
 list_takes bytes x fits e =
-    let a = bind_ok (number_at w16 bytes) (λ n. cond (leb 1 n.0 && leb n.0 2048) (cond (ltb (length n.1) (2 * n.0)) (Err Short) (pages_at 0 n.0 n.1)) (Err BadLength)) x e in
+    let a = bind_ok (number_at Short w16 bytes) (λ n. cond (leb 1 n.0 && leb n.0 2048) (cond (ltb (length n.1) (2 * n.0)) (Err Short) (pages_at 0 n.0 n.1)) (Err BadLength)) x e in
     let n = a.0 in
-    let first = number_takes w16 bytes n fits a.1 in
+    let first = number_takes Short w16 bytes n fits a.1 in
     let g = when_ok (leb 1 n.0 && leb n.0 2048) BadLength (cond (ltb (length n.1) (2 * n.0)) (Err Short) (pages_at 0 n.0 n.1)) x a.2 in
     let h = unless_ok (ltb (length n.1) (2 * n.0)) Short (pages_at 0 n.0 n.1) x g.1 in
     let second = pages_take n.0 0 n.1 x first.0.left h.1 in
@@ -177,4 +135,4 @@ list_again pages rest is =
     let bounds = is_within (length pages) is.least is.most in
     let long : ltb (length (text ++ rest)) (2 * length pages) ≡ false = le-ltb _ _ (omega (arith, length-append text rest, length-pages pages)) in
     ap list_at (append_assoc (to_be_bytes w16 (length pages)) text rest)
-    ∙ (rw (number_again w16 (length pages) (text ++ rest) fits, bounds, long, pages_again pages 0 rest is.each is.rising) refl)
+    ∙ (rw (number_again Short w16 (length pages) (text ++ rest) fits, bounds, long, pages_again pages 0 rest is.each is.rising) refl)

@@ -1,4 +1,5 @@
 pub mod Appended
+pub mod Steps
 pub mod Fields
 pub mod Loop
 pub mod Records

@@ -1,5 +1,5 @@
 -- The two laws of records: what is read is spelled so, and what is spelled so is read.
-use Rattle.std.proofs.Common.{◌≡◌, ℕ, ◌-◌, ◌^◌, ◌<◌, ◌≤◌, Bool, true, false, cond, eqb, List, [], ◌∷◌, ◌++◌, length, drop, Result, Ok, Err, ◌⊎◌, inl, inr, refl, sym, ap, subst, ◌∙◌, append_assoc, arith}
+use Rattle.std.proofs.Common.{◌≡◌, ℕ, ◌-◌, ◌^◌, ◌<◌, ◌≤◌, true, cond, eqb, List, [], ◌∷◌, ◌++◌, length, drop, Result, Ok, Err, inl, inr, refl, sym, ap, subst, ◌∙◌, append_assoc, arith}
 use Rattle.std.specs.Prelude.{IfOk}
 use Rattle.std.specs.Int.{w16, w32, w64, to_be_bytes}
 use Rattle.std.proofs.lemmas.Bool.{eqb-true}
@@ -10,26 +10,25 @@ use Rattle.ag_model.proofs.Numbers.{AreBytes-rest}
 use Rattle.ag_model.specs.declared.record.Record.{Record}
 use Rattle.ag_model.specs.declared.record.Record.TheVariants.{Put, Del, Commit, Abort, Trim, Term}
 use Rattle.ag_record.specs.declared.fault.RecordFault.{RecordFault}
-use Rattle.ag_record.specs.declared.fault.RecordFault.TheVariants.{BadKind, BadPage}
+use Rattle.ag_record.specs.declared.fault.RecordFault.TheVariants.{Short, BadKind, BadPage}
 use Rattle.ag_record.specs.Spelling.{spelling, value_spelling, pages_spelling, HasSpelling, ArePages}
-use Rattle.ag_record.specs.Reading.{◌>>=◌, Answers, number_at, value_at, is_page, list_at, put_at, del_at, ending_at, trim_at, term_at, fields_at, record_at, reading}
-use Rattle.ag_record.proofs.Fields.{bind_ok, when_ok, ok_is, Takes, Takes-then, number_takes, number_again, value_takes, value_again, list_takes, list_again, is_page-IsPage, IsPage-is_page, length-pages}
+use Rattle.ag_record.specs.Steps.{◌>>=◌, number_at}
+use Rattle.ag_record.specs.Reading.{Answers, value_at, is_page, list_at, put_at, del_at, ending_at, trim_at, term_at, fields_at, record_at, reading}
+use Rattle.ag_record.proofs.Steps.{bind_ok, when_ok, chosen, ok_is, Takes, Takes-then, Takes-kind, number_takes, number_again}
+use Rattle.ag_record.proofs.Fields.{value_takes, value_again, list_takes, list_again, is_page-IsPage, IsPage-is_page, length-pages}
 
 -- a record was read from bytes
 abbrev Reads : List ℕ → Record × List ℕ → Type 0
 Reads bytes x = Takes bytes (spelling x.0) x.1 × HasSpelling x.0
 
-Takes-kind : (kind : ℕ) (bytes text rest : List ℕ) → Takes bytes text rest → Takes (kind ∷ bytes) (kind ∷ text) rest
-Takes-kind kind bytes text rest t = record { parts = ap (λ (z : List ℕ). kind ∷ z) t.parts; left = t.left }
-
 put_takes : (bytes : List ℕ) (x : Record × List ℕ) → AreBytes bytes → put_at bytes ≡ Ok x → Reads (1 ∷ bytes) x
 unfolding put_at
 put_takes bytes x fits e =
-    let a = bind_ok (number_at w64 bytes) (λ txn. number_at w32 txn.1 >>= λ key. value_at key.1 >>= λ value. Ok (Put txn.0 key.0 value.0, value.1)) x e in
-    let b = bind_ok (number_at w32 a.0.1) (λ key. value_at key.1 >>= λ value. Ok (Put a.0.0 key.0 value.0, value.1)) x a.2 in
+    let a = bind_ok (number_at Short w64 bytes) (λ txn. number_at Short w32 txn.1 >>= λ key. value_at key.1 >>= λ value. Ok (Put txn.0 key.0 value.0, value.1)) x e in
+    let b = bind_ok (number_at Short w32 a.0.1) (λ key. value_at key.1 >>= λ value. Ok (Put a.0.0 key.0 value.0, value.1)) x a.2 in
     let c = bind_ok (value_at b.0.1) (λ value. Ok (Put a.0.0 b.0.0 value.0, value.1)) x b.2 in
-    let t0 = number_takes w64 bytes a.0 fits a.1 in
-    let t1 = number_takes w32 a.0.1 b.0 t0.0.left b.1 in
+    let t0 = number_takes Short w64 bytes a.0 fits a.1 in
+    let t1 = number_takes Short w32 a.0.1 b.0 t0.0.left b.1 in
     let t2 = value_takes b.0.1 c.0 t1.0.left c.1 in
     let e12 = Takes-then a.0.1 (to_be_bytes w32 b.0.0) b.0.1 (value_spelling c.0.0) c.0.1 t1.0 t2.0 in
     let e02 = Takes-then bytes (to_be_bytes w64 a.0.0) a.0.1 (to_be_bytes w32 b.0.0 ++ value_spelling c.0.0) c.0.1 t0.0 e12 in
@@ -39,10 +38,10 @@ put_takes bytes x fits e =
 del_takes : (bytes : List ℕ) (x : Record × List ℕ) → AreBytes bytes → del_at bytes ≡ Ok x → Reads (2 ∷ bytes) x
 unfolding del_at
 del_takes bytes x fits e =
-    let a = bind_ok (number_at w64 bytes) (λ txn. number_at w32 txn.1 >>= λ key. Ok (Del txn.0 key.0, key.1)) x e in
-    let b = bind_ok (number_at w32 a.0.1) (λ key. Ok (Del a.0.0 key.0, key.1)) x a.2 in
-    let t0 = number_takes w64 bytes a.0 fits a.1 in
-    let t1 = number_takes w32 a.0.1 b.0 t0.0.left b.1 in
+    let a = bind_ok (number_at Short w64 bytes) (λ txn. number_at Short w32 txn.1 >>= λ key. Ok (Del txn.0 key.0, key.1)) x e in
+    let b = bind_ok (number_at Short w32 a.0.1) (λ key. Ok (Del a.0.0 key.0, key.1)) x a.2 in
+    let t0 = number_takes Short w64 bytes a.0 fits a.1 in
+    let t1 = number_takes Short w32 a.0.1 b.0 t0.0.left b.1 in
     let e01 = Takes-then bytes (to_be_bytes w64 a.0.0) a.0.1 (to_be_bytes w32 b.0.0) b.0.1 t0.0 t1.0 in
     let made : Record × List ℕ = (Del a.0.0 b.0.0, b.0.1) in
     subst (Reads (2 ∷ bytes)) (ok_is made x b.2) (Takes-kind 2 bytes (to_be_bytes w64 a.0.0 ++ to_be_bytes w32 b.0.0) b.0.1 e01, (t0.1, t1.1))
@@ -59,9 +58,9 @@ record Ending (make : ℕ → List ℕ → Record) (bytes : List ℕ) (x : Recor
 ending_takes : (make : ℕ → List ℕ → Record) (bytes : List ℕ) (x : Record × List ℕ) → AreBytes bytes → ending_at make bytes ≡ Ok x → Ending make bytes x
 unfolding ending_at
 ending_takes make bytes x fits e =
-    let a = bind_ok (number_at w64 bytes) (λ txn. list_at txn.1 >>= λ pages. Ok (make txn.0 pages.0, pages.1)) x e in
+    let a = bind_ok (number_at Short w64 bytes) (λ txn. list_at txn.1 >>= λ pages. Ok (make txn.0 pages.0, pages.1)) x e in
     let b = bind_ok (list_at a.0.1) (λ pages. Ok (make a.0.0 pages.0, pages.1)) x a.2 in
-    let t0 = number_takes w64 bytes a.0 fits a.1 in
+    let t0 = number_takes Short w64 bytes a.0 fits a.1 in
     let t1 = list_takes a.0.1 b.0 t0.0.left b.1 in
     let e01 = Takes-then bytes (to_be_bytes w64 a.0.0) a.0.1 (pages_spelling b.0.0) b.0.1 t0.0 t1.0 in
     let made : Record × List ℕ = (make a.0.0 b.0.0, b.0.1) in
@@ -80,11 +79,11 @@ abort_takes bytes x fits e =
 trim_takes : (bytes : List ℕ) (x : Record × List ℕ) → AreBytes bytes → trim_at bytes ≡ Ok x → Reads (5 ∷ bytes) x
 unfolding trim_at
 trim_takes bytes x fits e =
-    let a = bind_ok (number_at w16 bytes) (λ page. number_at w64 page.1 >>= λ horizon. cond (is_page page.0) (Ok (Trim page.0 horizon.0, horizon.1)) (Err BadPage)) x e in
-    let b = bind_ok (number_at w64 a.0.1) (λ horizon. cond (is_page a.0.0) (Ok (Trim a.0.0 horizon.0, horizon.1)) (Err BadPage)) x a.2 in
+    let a = bind_ok (number_at Short w16 bytes) (λ page. number_at Short w64 page.1 >>= λ horizon. cond (is_page page.0) (Ok (Trim page.0 horizon.0, horizon.1)) (Err BadPage)) x e in
+    let b = bind_ok (number_at Short w64 a.0.1) (λ horizon. cond (is_page a.0.0) (Ok (Trim a.0.0 horizon.0, horizon.1)) (Err BadPage)) x a.2 in
     let g = when_ok (is_page a.0.0) BadPage (Ok (Trim a.0.0 b.0.0, b.0.1)) x b.2 in
-    let t0 = number_takes w16 bytes a.0 fits a.1 in
-    let t1 = number_takes w64 a.0.1 b.0 t0.0.left b.1 in
+    let t0 = number_takes Short w16 bytes a.0 fits a.1 in
+    let t1 = number_takes Short w64 a.0.1 b.0 t0.0.left b.1 in
     let e01 = Takes-then bytes (to_be_bytes w16 a.0.0) a.0.1 (to_be_bytes w64 b.0.0) b.0.1 t0.0 t1.0 in
     let made : Record × List ℕ = (Trim a.0.0 b.0.0, b.0.1) in
     subst (Reads (5 ∷ bytes)) (ok_is made x g.1) (Takes-kind 5 bytes (to_be_bytes w16 a.0.0 ++ to_be_bytes w64 b.0.0) b.0.1 e01, (is_page-IsPage a.0.0 g.0, t1.1))
@@ -92,16 +91,12 @@ trim_takes bytes x fits e =
 term_takes : (bytes : List ℕ) (x : Record × List ℕ) → AreBytes bytes → term_at bytes ≡ Ok x → Reads (6 ∷ bytes) x
 unfolding term_at
 term_takes bytes x fits e =
-    let a = bind_ok (number_at w64 bytes) (λ term. Ok (Term term.0, term.1)) x e in
-    let t0 = number_takes w64 bytes a.0 fits a.1 in
+    let a = bind_ok (number_at Short w64 bytes) (λ term. Ok (Term term.0, term.1)) x e in
+    let t0 = number_takes Short w64 bytes a.0 fits a.1 in
     let made : Record × List ℕ = (Term a.0.0, a.0.1) in
     subst (Reads (6 ∷ bytes)) (ok_is made x a.2) (Takes-kind 6 bytes (to_be_bytes w64 a.0.0) a.0.1 t0.0, t0.1)
 
--- a record was read by its kind, or by another one
-chosen : {A : Type 0} (b : Bool) (r s : Result A RecordFault) (x : A) → cond b r s ≡ Ok x → ((b ≡ true) × (r ≡ Ok x)) ⊎ (s ≡ Ok x)
-chosen true r s x e = inl (refl, e)
-chosen false r s x e = inr e
-
+-- a byte that is no kind
 no_kind : {A : Type 0} (x : A) → Err BadKind ≡ Ok x → ⊥
 no_kind x e = cc
 
@@ -145,17 +140,17 @@ pub record_again : (r : Record) (rest : List ℕ) → HasSpelling r → record_a
 unfolding record_at fields_at put_at del_at ending_at trim_at term_at
 record_again (Put txn key value) rest h =
     let regrouped : (to_be_bytes w64 txn ++ (to_be_bytes w32 key ++ value_spelling value)) ++ rest ≡ to_be_bytes w64 txn ++ (to_be_bytes w32 key ++ (value_spelling value ++ rest)) = append_assoc (to_be_bytes w64 txn) (to_be_bytes w32 key ++ value_spelling value) rest ∙ ap (λ (z : List ℕ). to_be_bytes w64 txn ++ z) (append_assoc (to_be_bytes w32 key) (value_spelling value) rest) in
-    ap put_at regrouped ∙ (rw (number_again w64 txn (to_be_bytes w32 key ++ (value_spelling value ++ rest)) h.0, number_again w32 key (value_spelling value ++ rest) h.1, value_again value rest h.2) refl)
+    ap put_at regrouped ∙ (rw (number_again Short w64 txn (to_be_bytes w32 key ++ (value_spelling value ++ rest)) h.0, number_again Short w32 key (value_spelling value ++ rest) h.1, value_again value rest h.2) refl)
 record_again (Del txn key) rest h =
-    ap del_at (append_assoc (to_be_bytes w64 txn) (to_be_bytes w32 key) rest) ∙ (rw (number_again w64 txn (to_be_bytes w32 key ++ rest) h.0, number_again w32 key rest h.1) refl)
+    ap del_at (append_assoc (to_be_bytes w64 txn) (to_be_bytes w32 key) rest) ∙ (rw (number_again Short w64 txn (to_be_bytes w32 key ++ rest) h.0, number_again Short w32 key rest h.1) refl)
 record_again (Commit txn pages) rest h =
-    ap (ending_at Commit) (append_assoc (to_be_bytes w64 txn) (pages_spelling pages) rest) ∙ (rw (number_again w64 txn (pages_spelling pages ++ rest) h.0, list_again pages rest h.1) refl)
+    ap (ending_at Commit) (append_assoc (to_be_bytes w64 txn) (pages_spelling pages) rest) ∙ (rw (number_again Short w64 txn (pages_spelling pages ++ rest) h.0, list_again pages rest h.1) refl)
 record_again (Abort txn pages) rest h =
-    ap (ending_at Abort) (append_assoc (to_be_bytes w64 txn) (pages_spelling pages) rest) ∙ (rw (number_again w64 txn (pages_spelling pages ++ rest) h.0, list_again pages rest h.1) refl)
+    ap (ending_at Abort) (append_assoc (to_be_bytes w64 txn) (pages_spelling pages) rest) ∙ (rw (number_again Short w64 txn (pages_spelling pages ++ rest) h.0, list_again pages rest h.1) refl)
 record_again (Trim page horizon) rest h =
     let fits : page < 2 ^ 16 = omega (arith, h.0) in
-    ap trim_at (append_assoc (to_be_bytes w16 page) (to_be_bytes w64 horizon) rest) ∙ (rw (number_again w16 page (to_be_bytes w64 horizon ++ rest) fits, number_again w64 horizon rest h.1, IsPage-is_page page h.0) refl)
-record_again (Term term) rest h = rw (number_again w64 term rest h) refl
+    ap trim_at (append_assoc (to_be_bytes w16 page) (to_be_bytes w64 horizon) rest) ∙ (rw (number_again Short w16 page (to_be_bytes w64 horizon ++ rest) fits, number_again Short w64 horizon rest h.1, IsPage-is_page page h.0) refl)
+record_again (Term term) rest h = rw (number_again Short w64 term rest h) refl
 
 -- a spelling has the size of its record
 pub length-spelling : (r : Record) → HasSpelling r → length (spelling r) ≡ record_size r

@@ -1,46 +1,15 @@
 //! Records from bytes.
 ghost use Rattle.std.specs.Prelude.{◌≡◌, ◌≤◌, ◌++◌, ℕ, List, length, drop, IfOk};
-ghost use Rattle.std.specs.Int.{w16, w32, w64};
 ghost use Rattle.ag_model.specs.declared.record.Record.TheVariants.{Commit, Abort};
 ghost use Rattle.ag_model.specs.Sizes.{record_size};
 ghost use Rattle.ag_record.specs.Spelling.{spelling, HasSpelling};
-ghost use Rattle.ag_record.specs.Reading.{Gives, Answers, number_at, value_of, value_at, is_page, pages_at, list_at, put_at, del_at, ending_at, trim_at, term_at, record_at, reading};
+ghost use Rattle.ag_record.specs.Reading.{Gives, Answers, value_of, value_at, is_page, pages_at, list_at, put_at, del_at, ending_at, trim_at, term_at, record_at, reading};
 
 use crate::fault::RecordFault;
+use crate::numbers::{u16_at, u32_at, u64_at};
 use ag_model::record::{PageList, Record};
 use ag_model::value::Value;
-use byteorder::{BigEndian, ByteOrder};
 use std::alloc::Global;
-
-fn u16_at(b: &[u8]) -> Result<(u16, &[u8]), RecordFault>
-    ensures { Gives (λ x. (x.0, x.1.now)) result (number_at w16 b.now) }
-{
-    if b.len() < 2 {
-        return Err(RecordFault::Short);
-    }
-    let (front, rest) = b.split_at(2);
-    Ok((BigEndian::read_u16(front), rest))
-}
-
-fn u32_at(b: &[u8]) -> Result<(u32, &[u8]), RecordFault>
-    ensures { Gives (λ x. (x.0, x.1.now)) result (number_at w32 b.now) }
-{
-    if b.len() < 4 {
-        return Err(RecordFault::Short);
-    }
-    let (front, rest) = b.split_at(4);
-    Ok((BigEndian::read_u32(front), rest))
-}
-
-fn u64_at(b: &[u8]) -> Result<(u64, &[u8]), RecordFault>
-    ensures { Gives (λ x. (x.0, x.1.now)) result (number_at w64 b.now) }
-{
-    if b.len() < 8 {
-        return Err(RecordFault::Short);
-    }
-    let (front, rest) = b.split_at(8);
-    Ok((BigEndian::read_u64(front), rest))
-}
 
 /// Whether a page has this number.
 fn is_page(page: u16) -> bool
@@ -67,7 +36,7 @@ fn padded(text: &[u8]) -> Value
 fn value_in(b: &[u8]) -> Result<(Value, &[u8]), RecordFault>
     ensures { Gives (λ x. (x.0, x.1.now)) result (value_at b.now) }
 {
-    let (len, rest) = u16_at(b)?;
+    let (len, rest) = u16_at(b, RecordFault::Short)?;
     if len > 64 {
         return Err(RecordFault::BadLength);
     }
@@ -86,7 +55,7 @@ fn pages_of(alloc: Global, count: usize, b: &[u8]) -> Result<(Vec<u16>, &[u8]), 
     let mut low = 0;
     let mut rest = b;
     for _ in 0..count {
-        let (page, after) = u16_at(rest)?;
+        let (page, after) = u16_at(rest, RecordFault::Short)?;
         if !is_page(page) {
             return Err(RecordFault::BadPage);
         }
@@ -104,7 +73,7 @@ fn pages_of(alloc: Global, count: usize, b: &[u8]) -> Result<(Vec<u16>, &[u8]), 
 fn list_of(alloc: Global, b: &[u8]) -> Result<(PageList, &[u8]), RecordFault>
     ensures { Gives (λ x. (x.0, x.1.now)) result (list_at b.now) }
 {
-    let (count, rest) = u16_at(b)?;
+    let (count, rest) = u16_at(b, RecordFault::Short)?;
     if count < 1 || count > 2048 {
         return Err(RecordFault::BadLength);
     }
@@ -120,8 +89,8 @@ fn list_of(alloc: Global, b: &[u8]) -> Result<(PageList, &[u8]), RecordFault>
 fn put_of(b: &[u8]) -> Result<(Record, &[u8]), RecordFault>
     ensures { Gives (λ x. (x.0, x.1.now)) result (put_at b.now) }
 {
-    let (txn, rest) = u64_at(b)?;
-    let (key, rest) = u32_at(rest)?;
+    let (txn, rest) = u64_at(b, RecordFault::Short)?;
+    let (key, rest) = u32_at(rest, RecordFault::Short)?;
     let (value, rest) = value_in(rest)?;
     Ok((Record::Put { txn, key, value }, rest))
 }
@@ -130,8 +99,8 @@ fn put_of(b: &[u8]) -> Result<(Record, &[u8]), RecordFault>
 fn del_of(b: &[u8]) -> Result<(Record, &[u8]), RecordFault>
     ensures { Gives (λ x. (x.0, x.1.now)) result (del_at b.now) }
 {
-    let (txn, rest) = u64_at(b)?;
-    let (key, rest) = u32_at(rest)?;
+    let (txn, rest) = u64_at(b, RecordFault::Short)?;
+    let (key, rest) = u32_at(rest, RecordFault::Short)?;
     Ok((Record::Del { txn, key }, rest))
 }
 
@@ -139,7 +108,7 @@ fn del_of(b: &[u8]) -> Result<(Record, &[u8]), RecordFault>
 fn commit_of(alloc: Global, b: &[u8]) -> Result<(Record, &[u8]), RecordFault>
     ensures { Gives (λ x. (x.0, x.1.now)) result (ending_at Commit b.now) }
 {
-    let (txn, rest) = u64_at(b)?;
+    let (txn, rest) = u64_at(b, RecordFault::Short)?;
     let (pages, rest) = list_of(alloc, rest)?;
     Ok((Record::Commit { txn, pages }, rest))
 }
@@ -148,7 +117,7 @@ fn commit_of(alloc: Global, b: &[u8]) -> Result<(Record, &[u8]), RecordFault>
 fn abort_of(alloc: Global, b: &[u8]) -> Result<(Record, &[u8]), RecordFault>
     ensures { Gives (λ x. (x.0, x.1.now)) result (ending_at Abort b.now) }
 {
-    let (txn, rest) = u64_at(b)?;
+    let (txn, rest) = u64_at(b, RecordFault::Short)?;
     let (pages, rest) = list_of(alloc, rest)?;
     Ok((Record::Abort { txn, pages }, rest))
 }
@@ -157,8 +126,8 @@ fn abort_of(alloc: Global, b: &[u8]) -> Result<(Record, &[u8]), RecordFault>
 fn trim_of(b: &[u8]) -> Result<(Record, &[u8]), RecordFault>
     ensures { Gives (λ x. (x.0, x.1.now)) result (trim_at b.now) }
 {
-    let (page, rest) = u16_at(b)?;
-    let (horizon, rest) = u64_at(rest)?;
+    let (page, rest) = u16_at(b, RecordFault::Short)?;
+    let (horizon, rest) = u64_at(rest, RecordFault::Short)?;
     if !is_page(page) {
         return Err(RecordFault::BadPage);
     }
@@ -169,7 +138,7 @@ fn trim_of(b: &[u8]) -> Result<(Record, &[u8]), RecordFault>
 fn term_of(b: &[u8]) -> Result<(Record, &[u8]), RecordFault>
     ensures { Gives (λ x. (x.0, x.1.now)) result (term_at b.now) }
 {
-    let (term, rest) = u64_at(b)?;
+    let (term, rest) = u64_at(b, RecordFault::Short)?;
     Ok((Record::Term { term }, rest))
 }
 

@@ -6,6 +6,7 @@ ghost use Rattle.ag_model.specs.declared.record.Record.TheVariants.{Put, Del, Co
 ghost use Rattle.ag_model.specs.Sizes.{record_size};
 ghost use Rattle.ag_record.specs.Spelling.{value_spelling, pages_spelling, spelling, records_spelling, HasSpelling, HaveSpelling, IsValue, ArePages};
 
+use crate::numbers::{put_u16, put_u32, put_u64};
 use ag_model::record::{PageList, Record};
 use ag_model::value::{NoMemory, Value};
 
@@ -31,9 +32,9 @@ fn put(txn: u64, key: u32, value: &Value, out: &mut Vec<u8>) -> Result<(), NoMem
     let len = usize::from(value.len);
     out.reserve(15 + len)?;
     out.extend_from_slice(&[1])?;
-    out.extend_from_slice(&txn.to_be_bytes())?;
-    out.extend_from_slice(&key.to_be_bytes())?;
-    out.extend_from_slice(&u16::from(value.len).to_be_bytes())?;
+    put_u64(txn, out)?;
+    put_u32(key, out)?;
+    put_u16(u16::from(value.len), out)?;
     out.extend_from_slice(&value.bytes[..len])?;
     Ok(())
 }
@@ -44,8 +45,8 @@ fn del(txn: u64, key: u32, out: &mut Vec<u8>) -> Result<(), NoMemory>
 {
     out.reserve(13)?;
     out.extend_from_slice(&[2])?;
-    out.extend_from_slice(&txn.to_be_bytes())?;
-    out.extend_from_slice(&key.to_be_bytes())?;
+    put_u64(txn, out)?;
+    put_u32(key, out)?;
     Ok(())
 }
 
@@ -55,7 +56,7 @@ fn pages_of(pages: &[u16], out: &mut Vec<u8>) -> Result<(), NoMemory>
     ensures items { out.new.items ≡ out.old.items ++ flat_map (to_be_bytes w16) pages.now }
 {
     for page in pages {
-        out.extend_from_slice(&page.to_be_bytes())?;
+        put_u16(*page, out)?;
     }
     Ok(())
 }
@@ -68,8 +69,8 @@ fn ending(kind: u8, txn: u64, pages: &PageList, out: &mut Vec<u8>) -> Result<(),
     let pages = pages.as_slice();
     out.reserve(11 + 2 * pages.len())?;
     out.extend_from_slice(&[kind])?;
-    out.extend_from_slice(&txn.to_be_bytes())?;
-    out.extend_from_slice(&(pages.len() as u16).to_be_bytes())?;
+    put_u64(txn, out)?;
+    put_u16(pages.len() as u16, out)?;
     pages_of(pages, out)?;
     Ok(())
 }
@@ -80,8 +81,8 @@ fn trim(page: u16, horizon: u64, out: &mut Vec<u8>) -> Result<(), NoMemory>
 {
     out.reserve(11)?;
     out.extend_from_slice(&[5])?;
-    out.extend_from_slice(&page.to_be_bytes())?;
-    out.extend_from_slice(&horizon.to_be_bytes())?;
+    put_u16(page, out)?;
+    put_u64(horizon, out)?;
     Ok(())
 }
 
@@ -91,7 +92,7 @@ fn term(term: u64, out: &mut Vec<u8>) -> Result<(), NoMemory>
 {
     out.reserve(9)?;
     out.extend_from_slice(&[6])?;
-    out.extend_from_slice(&term.to_be_bytes())?;
+    put_u64(term, out)?;
     Ok(())
 }
 

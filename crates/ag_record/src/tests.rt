@@ -49,6 +49,28 @@ fn records_are_read_and_written(rt: HostRuntime) -> Result<(), Fail> {
 }
 
 #[test]
+fn numbers_stand_with_their_highest_byte_first(rt: HostRuntime) -> Result<(), Fail> {
+    let mut out = Vec::new(rt.alloc());
+    assert!(rt; put_u16(0x0102, &mut out).is_ok());
+    assert!(rt; put_u32(0x0304_0506, &mut out).is_ok());
+    assert!(rt; put_u64(0x0708_090a_0b0c_0d0e, &mut out).is_ok());
+    let bytes = [1, 2, 3, 4, 5, 6, 7, 8, 9, 10, 11, 12, 13, 14];
+    assert_eq!(rt; out.as_slice(), bytes.as_slice());
+    let (two, rest) = u16_at(&bytes, "two bytes are there")?;
+    let (four, rest) = u32_at(rest, "four bytes are there")?;
+    let (eight, rest) = u64_at(rest, "eight bytes are there")?;
+    assert_eq!(rt;
+        (two, four, eight),
+        (0x0102, 0x0304_0506, 0x0708_090a_0b0c_0d0e)
+    );
+    assert!(rt; rest.is_empty());
+    assert_eq!(rt; u16_at(&bytes[..1], 1).err(), Some(1));
+    assert_eq!(rt; u32_at(&bytes[..3], 3).err(), Some(3));
+    assert_eq!(rt; u64_at(&bytes[..7], 7).err(), Some(7));
+    Ok(())
+}
+
+#[test]
 fn a_put_has_its_fields(rt: HostRuntime) -> Result<(), Fail> {
     let Ok((Record::Put { txn, key, value }, _)) = decode(rt.alloc(), &PUT) else {
         return Err("the bytes are a Put".into());

@@ -2,9 +2,10 @@
 use Rattle.std.proofs.Common.{◌≡◌, ℕ, suc, ◌-◌, ◌+◌, ◌≤◌, ◌<◌, List, [], ◌∷◌, ◌++◌, Option, Some, Result, Ok, Err, refl, sym, ap, ◌∙◌, append_assoc, arith}
 use Rattle.std.proofs.lemmas.List.{append-nil}
 use Rattle.ag_model.specs.declared.config.TermStart.{TermStart}
+use Rattle.ag_record.specs.Steps.{◌>>=◌}
 use Rattle.ag_wire.specs.declared.fault.WireFault.{WireFault}
 use Rattle.ag_wire.specs.declared.fault.WireFault.TheVariants.{NoMemory}
-use Rattle.ag_wire.specs.Reading.{◌>>=◌, Fails, start_at, starts_at}
+use Rattle.ag_wire.specs.Reading.{Fails, start_at, starts_at}
 
 -- the starts that were read before, and those that are still read
 abbrev pub with_front : List TermStart → Result (List TermStart × List ℕ) WireFault → Result (List TermStart × List ℕ) WireFault

@@ -1,5 +1,5 @@
 -- The two laws of messages: what is read is spelled so, and what is spelled so is read.
-use Rattle.std.proofs.Common.{◌≡◌, ℕ, ◌^◌, ◌<◌, Bool, true, false, cond, eqb, List, [], ◌∷◌, ◌++◌, length, None, Result, Ok, Err, ◌⊎◌, inl, inr, refl, sym, ap, subst, ◌∙◌, append_assoc, arith}
+use Rattle.std.proofs.Common.{◌≡◌, ℕ, ◌^◌, ◌<◌, true, cond, eqb, List, [], ◌∷◌, ◌++◌, length, None, Result, Ok, Err, inl, inr, refl, sym, ap, subst, ◌∙◌, append_assoc, arith}
 use Rattle.std.specs.Prelude.{IfOk}
 use Rattle.std.specs.List.{flat_map}
 use Rattle.std.specs.Int.{w32, w64, to_be_bytes}
@@ -14,12 +14,13 @@ use Rattle.ag_model.specs.declared.message.Block.{Block as BlockOf}
 use Rattle.ag_model.specs.declared.message.Body.{Body}
 use Rattle.ag_model.specs.declared.message.Body.TheVariants.{Hello, Resume, Block, Ack}
 use Rattle.ag_model.specs.declared.message.Message.{Message}
-use Rattle.ag_record.proofs.Fields.{Takes, Takes-then}
+use Rattle.ag_record.specs.Steps.{◌>>=◌, number_at}
+use Rattle.ag_record.proofs.Steps.{bind_ok, when_ok, chosen, ok_is, Takes, Takes-then, Takes-kind, number_takes, number_again}
 use Rattle.ag_wire.specs.declared.fault.WireFault.{WireFault}
-use Rattle.ag_wire.specs.declared.fault.WireFault.TheVariants.{BadKind, Extra}
+use Rattle.ag_wire.specs.declared.fault.WireFault.TheVariants.{Short, BadKind, Extra}
 use Rattle.ag_wire.specs.Spelling.{pair_spelling, ticket_spelling, start_spelling, starts_spelling, block_spelling, spelling, IsBody, HasSpelling}
-use Rattle.ag_wire.specs.Reading.{◌>>=◌, Answers, number_at, ticket_at, starts_at, payload_at, hello_at, resume_at, block_at, ack_at, fields_at, message_at, whole, reading}
-use Rattle.ag_wire.proofs.Parts.{bind_ok, when_ok, ok_is, number_takes, number_again, ticket_takes, ticket_again, starts_take, starts_again}
+use Rattle.ag_wire.specs.Reading.{Answers, ticket_at, starts_at, payload_at, hello_at, resume_at, block_at, ack_at, fields_at, message_at, whole, reading}
+use Rattle.ag_wire.proofs.Parts.{ticket_takes, ticket_again, starts_take, starts_again}
 use Rattle.ag_wire.proofs.Payload.{sized, payload_takes, payload_again}
 
 abbrev message : ℕ → Body → Message
@@ -32,25 +33,22 @@ block first term records = record { first = first; term = term; records = record
 abbrev Reads : List ℕ → Message × List ℕ → Type 0
 Reads bytes x = Takes bytes (spelling x.0) x.1 × HasSpelling x.0
 
-Takes-kind : (kind : ℕ) (bytes text rest : List ℕ) → Takes bytes text rest → Takes (kind ∷ bytes) (kind ∷ text) rest
-Takes-kind kind bytes text rest t = record { parts = ap (λ (z : List ℕ). kind ∷ z) t.parts; left = t.left }
-
 hello_takes : (bytes : List ℕ) (x : Message × List ℕ) → AreBytes bytes → hello_at bytes ≡ Ok x → Reads (1 ∷ bytes) x
 unfolding hello_at
 hello_takes bytes x fits e =
     let f4 = λ (term : ℕ) (ticket : Ticket) (end : ℕ) (starts : List TermStart × List ℕ). let r : Result (Message × List ℕ) WireFault = Ok (message term (Hello ticket end starts.0), starts.1) in r in
     let f3 = λ (term : ℕ) (ticket : Ticket) (end : ℕ) (count : ℕ × List ℕ). starts_at None count.0 count.1 >>= f4 term ticket end in
-    let f2 = λ (term : ℕ) (ticket : Ticket) (end : ℕ × List ℕ). number_at w32 end.1 >>= f3 term ticket end.0 in
-    let f1 = λ (term : ℕ) (ticket : Ticket × List ℕ). number_at w64 ticket.1 >>= f2 term ticket.0 in
-    let a = bind_ok (number_at w64 bytes) (λ term. ticket_at term.1 >>= f1 term.0) x e in
+    let f2 = λ (term : ℕ) (ticket : Ticket) (end : ℕ × List ℕ). number_at Short w32 end.1 >>= f3 term ticket end.0 in
+    let f1 = λ (term : ℕ) (ticket : Ticket × List ℕ). number_at Short w64 ticket.1 >>= f2 term ticket.0 in
+    let a = bind_ok (number_at Short w64 bytes) (λ term. ticket_at term.1 >>= f1 term.0) x e in
     let b = bind_ok (ticket_at a.0.1) (f1 a.0.0) x a.2 in
-    let c = bind_ok (number_at w64 b.0.1) (f2 a.0.0 b.0.0) x b.2 in
-    let d = bind_ok (number_at w32 c.0.1) (f3 a.0.0 b.0.0 c.0.0) x c.2 in
+    let c = bind_ok (number_at Short w64 b.0.1) (f2 a.0.0 b.0.0) x b.2 in
+    let d = bind_ok (number_at Short w32 c.0.1) (f3 a.0.0 b.0.0 c.0.0) x c.2 in
     let s = bind_ok (starts_at None d.0.0 d.0.1) (f4 a.0.0 b.0.0 c.0.0) x d.2 in
-    let t0 = number_takes w64 bytes a.0 fits a.1 in
+    let t0 = number_takes Short w64 bytes a.0 fits a.1 in
     let t1 = ticket_takes a.0.1 b.0 t0.0.left b.1 in
-    let t2 = number_takes w64 b.0.1 c.0 t1.0.left c.1 in
-    let t3 = number_takes w32 c.0.1 d.0 t2.0.left d.1 in
+    let t2 = number_takes Short w64 b.0.1 c.0 t1.0.left c.1 in
+    let t3 = number_takes Short w32 c.0.1 d.0 t2.0.left d.1 in
     let t4 = starts_take d.0.0 None d.0.1 s.0 t3.0.left s.1 in
     let each = flat_map start_spelling s.0.0 in
     let e34 : Takes c.0.1 (starts_spelling s.0.0) s.0.1 = subst (λ (k : ℕ). Takes c.0.1 (to_be_bytes w32 k ++ each) s.0.1) (sym t4.1) (Takes-then c.0.1 (to_be_bytes w32 d.0.0) d.0.1 each s.0.1 t3.0 t4.0) in
@@ -66,16 +64,16 @@ resume_takes : (bytes : List ℕ) (x : Message × List ℕ) → AreBytes bytes �
 unfolding resume_at
 resume_takes bytes x fits e =
     let f3 = λ (term : ℕ) (ticket : Ticket) (fork : ℕ) (end : ℕ × List ℕ). let r : Result (Message × List ℕ) WireFault = Ok (message term (Resume ticket fork end.0), end.1) in r in
-    let f2 = λ (term : ℕ) (ticket : Ticket) (fork : ℕ × List ℕ). number_at w64 fork.1 >>= f3 term ticket fork.0 in
-    let f1 = λ (term : ℕ) (ticket : Ticket × List ℕ). number_at w64 ticket.1 >>= f2 term ticket.0 in
-    let a = bind_ok (number_at w64 bytes) (λ term. ticket_at term.1 >>= f1 term.0) x e in
+    let f2 = λ (term : ℕ) (ticket : Ticket) (fork : ℕ × List ℕ). number_at Short w64 fork.1 >>= f3 term ticket fork.0 in
+    let f1 = λ (term : ℕ) (ticket : Ticket × List ℕ). number_at Short w64 ticket.1 >>= f2 term ticket.0 in
+    let a = bind_ok (number_at Short w64 bytes) (λ term. ticket_at term.1 >>= f1 term.0) x e in
     let b = bind_ok (ticket_at a.0.1) (f1 a.0.0) x a.2 in
-    let c = bind_ok (number_at w64 b.0.1) (f2 a.0.0 b.0.0) x b.2 in
-    let d = bind_ok (number_at w64 c.0.1) (f3 a.0.0 b.0.0 c.0.0) x c.2 in
-    let t0 = number_takes w64 bytes a.0 fits a.1 in
+    let c = bind_ok (number_at Short w64 b.0.1) (f2 a.0.0 b.0.0) x b.2 in
+    let d = bind_ok (number_at Short w64 c.0.1) (f3 a.0.0 b.0.0 c.0.0) x c.2 in
+    let t0 = number_takes Short w64 bytes a.0 fits a.1 in
     let t1 = ticket_takes a.0.1 b.0 t0.0.left b.1 in
-    let t2 = number_takes w64 b.0.1 c.0 t1.0.left c.1 in
-    let t3 = number_takes w64 c.0.1 d.0 t2.0.left d.1 in
+    let t2 = number_takes Short w64 b.0.1 c.0 t1.0.left c.1 in
+    let t3 = number_takes Short w64 c.0.1 d.0 t2.0.left d.1 in
     let e23 = Takes-then b.0.1 (to_be_bytes w64 c.0.0) c.0.1 (to_be_bytes w64 d.0.0) d.0.1 t2.0 t3.0 in
     let e13 = Takes-then a.0.1 (ticket_spelling b.0.0) b.0.1 (pair_spelling c.0.0 d.0.0) d.0.1 t1.0 e23 in
     let e03 = Takes-then bytes (to_be_bytes w64 a.0.0) a.0.1 (ticket_spelling b.0.0 ++ pair_spelling c.0.0 d.0.0) d.0.1 t0.0 e13 in
@@ -87,14 +85,14 @@ unfolding block_at
 block_takes bytes x fits e =
     let f3 = λ (term own first : ℕ) (records : List Record × List ℕ). let r : Result (Message × List ℕ) WireFault = Ok (message term (Block (block first own records.0)), records.1) in r in
     let f2 = λ (term own : ℕ) (first : ℕ × List ℕ). payload_at first.1 >>= f3 term own first.0 in
-    let f1 = λ (term : ℕ) (own : ℕ × List ℕ). number_at w64 own.1 >>= f2 term own.0 in
-    let a = bind_ok (number_at w64 bytes) (λ term. number_at w64 term.1 >>= f1 term.0) x e in
-    let b = bind_ok (number_at w64 a.0.1) (f1 a.0.0) x a.2 in
-    let c = bind_ok (number_at w64 b.0.1) (f2 a.0.0 b.0.0) x b.2 in
+    let f1 = λ (term : ℕ) (own : ℕ × List ℕ). number_at Short w64 own.1 >>= f2 term own.0 in
+    let a = bind_ok (number_at Short w64 bytes) (λ term. number_at Short w64 term.1 >>= f1 term.0) x e in
+    let b = bind_ok (number_at Short w64 a.0.1) (f1 a.0.0) x a.2 in
+    let c = bind_ok (number_at Short w64 b.0.1) (f2 a.0.0 b.0.0) x b.2 in
     let d = bind_ok (payload_at c.0.1) (f3 a.0.0 b.0.0 c.0.0) x c.2 in
-    let t0 = number_takes w64 bytes a.0 fits a.1 in
-    let t1 = number_takes w64 a.0.1 b.0 t0.0.left b.1 in
-    let t2 = number_takes w64 b.0.1 c.0 t1.0.left c.1 in
+    let t0 = number_takes Short w64 bytes a.0 fits a.1 in
+    let t1 = number_takes Short w64 a.0.1 b.0 t0.0.left b.1 in
+    let t2 = number_takes Short w64 b.0.1 c.0 t1.0.left c.1 in
     let t3 = payload_takes c.0.1 d.0 t2.0.left d.1 in
     let e12 = Takes-then a.0.1 (to_be_bytes w64 b.0.0) b.0.1 (to_be_bytes w64 c.0.0) c.0.1 t1.0 t2.0 in
     let e13 = Takes-then a.0.1 (pair_spelling b.0.0 c.0.0) c.0.1 (sized d.0.0) d.0.1 e12 t3.0 in
@@ -107,23 +105,19 @@ ack_takes : (bytes : List ℕ) (x : Message × List ℕ) → AreBytes bytes → 
 unfolding ack_at
 ack_takes bytes x fits e =
     let f2 = λ (term hardened : ℕ) (low : ℕ × List ℕ). let r : Result (Message × List ℕ) WireFault = Ok (message term (Ack hardened low.0), low.1) in r in
-    let f1 = λ (term : ℕ) (hardened : ℕ × List ℕ). number_at w64 hardened.1 >>= f2 term hardened.0 in
-    let a = bind_ok (number_at w64 bytes) (λ term. number_at w64 term.1 >>= f1 term.0) x e in
-    let b = bind_ok (number_at w64 a.0.1) (f1 a.0.0) x a.2 in
-    let c = bind_ok (number_at w64 b.0.1) (f2 a.0.0 b.0.0) x b.2 in
-    let t0 = number_takes w64 bytes a.0 fits a.1 in
-    let t1 = number_takes w64 a.0.1 b.0 t0.0.left b.1 in
-    let t2 = number_takes w64 b.0.1 c.0 t1.0.left c.1 in
+    let f1 = λ (term : ℕ) (hardened : ℕ × List ℕ). number_at Short w64 hardened.1 >>= f2 term hardened.0 in
+    let a = bind_ok (number_at Short w64 bytes) (λ term. number_at Short w64 term.1 >>= f1 term.0) x e in
+    let b = bind_ok (number_at Short w64 a.0.1) (f1 a.0.0) x a.2 in
+    let c = bind_ok (number_at Short w64 b.0.1) (f2 a.0.0 b.0.0) x b.2 in
+    let t0 = number_takes Short w64 bytes a.0 fits a.1 in
+    let t1 = number_takes Short w64 a.0.1 b.0 t0.0.left b.1 in
+    let t2 = number_takes Short w64 b.0.1 c.0 t1.0.left c.1 in
     let e12 = Takes-then a.0.1 (to_be_bytes w64 b.0.0) b.0.1 (to_be_bytes w64 c.0.0) c.0.1 t1.0 t2.0 in
     let e02 = Takes-then bytes (to_be_bytes w64 a.0.0) a.0.1 (pair_spelling b.0.0 c.0.0) c.0.1 t0.0 e12 in
     let made : Message × List ℕ = (message a.0.0 (Ack b.0.0 c.0.0), c.0.1) in
     subst (Reads (4 ∷ bytes)) (ok_is made x c.2) (Takes-kind 4 bytes (to_be_bytes w64 a.0.0 ++ pair_spelling b.0.0 c.0.0) c.0.1 e02, (t0.1, (t1.1, t2.1)))
 
--- a message was read by its kind, or by another one
-chosen : {A : Type 0} (b : Bool) (r s : Result A WireFault) (x : A) → cond b r s ≡ Ok x → ((b ≡ true) × (r ≡ Ok x)) ⊎ (s ≡ Ok x)
-chosen true r s x e = inl (refl, e)
-chosen false r s x e = inr e
-
+-- a byte that is no kind
 no_kind : {A : Type 0} (x : A) → Err BadKind ≡ Ok x → ⊥
 no_kind x e = cc
 
@@ -165,10 +159,10 @@ body_again term (Hello ticket end starts) rest fits h =
     let r1 = append_assoc (to_be_bytes w64 term) (ticket_spelling ticket ++ (to_be_bytes w64 end ++ starts_spelling starts)) rest ∙ ap (λ (z : List ℕ). to_be_bytes w64 term ++ z) r2 in
     ap hello_at r1
     ∙ (rw (
-      number_again w64 term (ticket_spelling ticket ++ (to_be_bytes w64 end ++ (to_be_bytes w32 (length starts) ++ (each ++ rest)))) fits,
+      number_again Short w64 term (ticket_spelling ticket ++ (to_be_bytes w64 end ++ (to_be_bytes w32 (length starts) ++ (each ++ rest)))) fits,
       ticket_again ticket (to_be_bytes w64 end ++ (to_be_bytes w32 (length starts) ++ (each ++ rest))) h.0,
-      number_again w64 end (to_be_bytes w32 (length starts) ++ (each ++ rest)) h.1,
-      number_again w32 (length starts) (each ++ rest) h.2.most,
+      number_again Short w64 end (to_be_bytes w32 (length starts) ++ (each ++ rest)) h.1,
+      number_again Short w32 (length starts) (each ++ rest) h.2.most,
       starts_again starts None rest h.2.each h.2.rising,
     ) refl)
 body_again term (Resume ticket fork end) rest fits h =
@@ -177,10 +171,10 @@ body_again term (Resume ticket fork end) rest fits h =
     let r1 = append_assoc (to_be_bytes w64 term) (ticket_spelling ticket ++ pair_spelling fork end) rest ∙ ap (λ (z : List ℕ). to_be_bytes w64 term ++ z) r2 in
     ap resume_at r1
     ∙ (rw (
-      number_again w64 term (ticket_spelling ticket ++ (to_be_bytes w64 fork ++ (to_be_bytes w64 end ++ rest))) fits,
+      number_again Short w64 term (ticket_spelling ticket ++ (to_be_bytes w64 fork ++ (to_be_bytes w64 end ++ rest))) fits,
       ticket_again ticket (to_be_bytes w64 fork ++ (to_be_bytes w64 end ++ rest)) h.0,
-      number_again w64 fork (to_be_bytes w64 end ++ rest) h.1,
-      number_again w64 end rest h.2,
+      number_again Short w64 fork (to_be_bytes w64 end ++ rest) h.1,
+      number_again Short w64 end rest h.2,
     ) refl)
 body_again term (Block b) rest fits h =
     let r3 = append_assoc (to_be_bytes w64 b.term) (to_be_bytes w64 b.first) (sized b.records ++ rest) in
@@ -188,9 +182,9 @@ body_again term (Block b) rest fits h =
     let r1 = append_assoc (to_be_bytes w64 term) (block_spelling b) rest ∙ ap (λ (z : List ℕ). to_be_bytes w64 term ++ z) r2 in
     ap block_at r1
     ∙ (rw (
-      number_again w64 term (to_be_bytes w64 b.term ++ (to_be_bytes w64 b.first ++ (sized b.records ++ rest))) fits,
-      number_again w64 b.term (to_be_bytes w64 b.first ++ (sized b.records ++ rest)) h.0,
-      number_again w64 b.first (sized b.records ++ rest) h.1,
+      number_again Short w64 term (to_be_bytes w64 b.term ++ (to_be_bytes w64 b.first ++ (sized b.records ++ rest))) fits,
+      number_again Short w64 b.term (to_be_bytes w64 b.first ++ (sized b.records ++ rest)) h.0,
+      number_again Short w64 b.first (sized b.records ++ rest) h.1,
       payload_again b.records rest h.2,
     ) refl)
 body_again term (Ack hardened low) rest fits h =
@@ -198,9 +192,9 @@ body_again term (Ack hardened low) rest fits h =
     let r1 = append_assoc (to_be_bytes w64 term) (pair_spelling hardened low) rest ∙ ap (λ (z : List ℕ). to_be_bytes w64 term ++ z) r2 in
     ap ack_at r1
     ∙ (rw (
-      number_again w64 term (to_be_bytes w64 hardened ++ (to_be_bytes w64 low ++ rest)) fits,
-      number_again w64 hardened (to_be_bytes w64 low ++ rest) h.0,
-      number_again w64 low rest h.1,
+      number_again Short w64 term (to_be_bytes w64 hardened ++ (to_be_bytes w64 low ++ rest)) fits,
+      number_again Short w64 hardened (to_be_bytes w64 low ++ rest) h.0,
+      number_again Short w64 low rest h.1,
     ) refl)
 body_again term _ rest fits h = absurd h
 

@@ -1,54 +1,17 @@
 -- A field that is read is the field that was written, and what was written is read again.
-use Rattle.std.proofs.Common.{◌≡◌, ℕ, zero, suc, ◌^◌, ◌<◌, ◌≤◌, Bool, true, false, cond, ltb, List, [], ◌∷◌, ◌++◌, length, take, drop, Option, None, Some, Result, Ok, Err, refl, sym, ap, subst, ◌∙◌, append_assoc, arith}
+use Rattle.std.proofs.Common.{◌≡◌, ℕ, zero, suc, ◌^◌, ◌<◌, true, cond, List, [], ◌∷◌, ◌++◌, length, Option, None, Some, Ok, Err, refl, sym, ap, subst, ◌∙◌, append_assoc}
 use Rattle.std.specs.List.{flat_map, AllByRecursion}
-use Rattle.std.specs.Int.{Width, w32, w64, byte_len, from_be_bytes, to_be_bytes}
-use Rattle.std.proofs.lemmas.Bool.{ltb-true, ltb-false, lt-ltb, le-ltb}
-use Rattle.std.proofs.lemmas.List.{length-append}
+use Rattle.std.specs.Int.{w32, w64, to_be_bytes}
+use Rattle.std.proofs.lemmas.Bool.{ltb-true, lt-ltb}
 use Rattle.std.proofs.lemmas.List.Concat.{flat_map-cons}
 use Rattle.ag_model.specs.Bytes.{AreBytes}
-use Rattle.ag_model.proofs.Numbers.{length-to_be_bytes, AreBytes-drop, front_number-read, front_number-lt, front_number-written, after_number-written}
 use Rattle.ag_model.specs.declared.config.Ticket.{Ticket}
 use Rattle.ag_model.specs.declared.config.TermStart.{TermStart}
-use Rattle.ag_record.proofs.Fields.{Takes, Takes-then}
-use Rattle.ag_wire.specs.declared.fault.WireFault.{WireFault}
+use Rattle.ag_record.specs.Steps.{◌>>=◌, number_at}
+use Rattle.ag_record.proofs.Steps.{bind_ok, when_ok, ok_is, Takes, Takes-then, number_takes, number_again}
 use Rattle.ag_wire.specs.declared.fault.WireFault.TheVariants.{Short, BadOrder}
 use Rattle.ag_wire.specs.Spelling.{ticket_spelling, start_spelling, IsAfter, RiseAfter, IsStart, IsTicket}
-use Rattle.ag_wire.specs.Reading.{◌>>=◌, number_at, ticket_at, is_above, above_at, term_of, lsn_of, start_at, starts_at}
-
--- a step that met no fault
-pub bind_ok : {A B : Type 0} (r : Result A WireFault) (f : A → Result B WireFault) (y : B) → (r >>= f) ≡ Ok y → (x : A) × (r ≡ Ok x) × (f x ≡ Ok y)
-bind_ok (Ok x) f y e = (x, refl, e)
-bind_ok (Err d) f y e = absurd cc
-
--- a test that met no fault
-pub unless_ok : {A : Type 0} (b : Bool) (d : WireFault) (r : Result A WireFault) (y : A) → cond b (Err d) r ≡ Ok y → (b ≡ false) × (r ≡ Ok y)
-unless_ok true d r y e = absurd cc
-unless_ok false d r y e = (refl, e)
-
-pub when_ok : {A : Type 0} (b : Bool) (d : WireFault) (r : Result A WireFault) (y : A) → cond b r (Err d) ≡ Ok y → (b ≡ true) × (r ≡ Ok y)
-when_ok true d r y e = (refl, e)
-when_ok false d r y e = absurd cc
-
-abbrev done : {A : Type 0} → A → Result A WireFault
-done x = Ok x
-
-pub ok_is : {A : Type 0} (x y : A) → done x ≡ done y → x ≡ y
-ok_is x y e = cc
-
--- ---- numbers
-
-pub number_takes : (w : Width) (bytes : List ℕ) (x : ℕ × List ℕ) → AreBytes bytes → number_at w bytes ≡ Ok x → Takes bytes (to_be_bytes w x.0) x.1 × (x.0 < 256 ^ byte_len w)
-number_takes w bytes x fits e =
-    let g = unless_ok (ltb (length bytes) (byte_len w)) Short (Ok (from_be_bytes w (take (byte_len w) bytes), drop (byte_len w) bytes)) x e in
-    let long : byte_len w ≤ length bytes = ltb-false _ _ g.0 in
-    subst (λ (y : ℕ × List ℕ). Takes bytes (to_be_bytes w y.0) y.1 × (y.0 < 256 ^ byte_len w)) (ok_is (from_be_bytes w (take (byte_len w) bytes), drop (byte_len w) bytes) x g.1)
-    (record { parts = front_number-read w bytes long fits; left = AreBytes-drop (byte_len w) bytes fits }, front_number-lt w bytes long fits)
-
-pub number_again : (w : Width) (n : ℕ) (rest : List ℕ) → n < 256 ^ byte_len w → number_at w (to_be_bytes w n ++ rest) ≡ Ok (n, rest)
-number_again w n rest lt =
-    let len = length-to_be_bytes w n in
-    let long : ltb (length (to_be_bytes w n ++ rest)) (byte_len w) ≡ false = le-ltb _ _ (omega (arith, length-append (to_be_bytes w n) rest)) in
-    rw (long, front_number-written w n rest lt, after_number-written w n rest) refl
+use Rattle.ag_wire.specs.Reading.{ticket_at, is_above, above_at, term_of, lsn_of, start_at, starts_at}
 
 -- ---- tickets
 
@@ -58,10 +21,10 @@ ticket incarnation joins = record { incarnation = incarnation; joins = joins }
 pub ticket_takes : (bytes : List ℕ) (x : Ticket × List ℕ) → AreBytes bytes → ticket_at bytes ≡ Ok x → Takes bytes (ticket_spelling x.0) x.1 × IsTicket x.0
 unfolding ticket_at
 ticket_takes bytes x fits e =
-    let a = bind_ok (number_at w64 bytes) (λ i. number_at w32 i.1 >>= λ j. Ok (ticket i.0 j.0, j.1)) x e in
-    let b = bind_ok (number_at w32 a.0.1) (λ j. Ok (ticket a.0.0 j.0, j.1)) x a.2 in
-    let t0 = number_takes w64 bytes a.0 fits a.1 in
-    let t1 = number_takes w32 a.0.1 b.0 t0.0.left b.1 in
+    let a = bind_ok (number_at Short w64 bytes) (λ i. number_at Short w32 i.1 >>= λ j. Ok (ticket i.0 j.0, j.1)) x e in
+    let b = bind_ok (number_at Short w32 a.0.1) (λ j. Ok (ticket a.0.0 j.0, j.1)) x a.2 in
+    let t0 = number_takes Short w64 bytes a.0 fits a.1 in
+    let t1 = number_takes Short w32 a.0.1 b.0 t0.0.left b.1 in
     let both = Takes-then bytes (to_be_bytes w64 a.0.0) a.0.1 (to_be_bytes w32 b.0.0) b.0.1 t0.0 t1.0 in
     let made : Ticket × List ℕ = (ticket a.0.0 b.0.0, b.0.1) in
     subst (λ (y : Ticket × List ℕ). Takes bytes (ticket_spelling y.0) y.1 × IsTicket y.0) (ok_is made x b.2) (both, (t0.1, t1.1))
@@ -70,21 +33,21 @@ pub ticket_again : (t : Ticket) (rest : List ℕ) → IsTicket t → ticket_at (
 unfolding ticket_at
 ticket_again t rest h =
     ap ticket_at (append_assoc (to_be_bytes w64 t.incarnation) (to_be_bytes w32 t.joins) rest)
-    ∙ (rw (number_again w64 t.incarnation (to_be_bytes w32 t.joins ++ rest) h.0, number_again w32 t.joins rest h.1) refl)
+    ∙ (rw (number_again Short w64 t.incarnation (to_be_bytes w32 t.joins ++ rest) h.0, number_again Short w32 t.joins rest h.1) refl)
 
 -- ---- term starts
 
 above_takes : (low : Option ℕ) (bytes : List ℕ) (x : ℕ × List ℕ) → AreBytes bytes → above_at low bytes ≡ Ok x → Takes bytes (to_be_bytes w64 x.0) x.1 × (x.0 < 2 ^ 64) × (is_above low x.0 ≡ true)
 unfolding above_at
 above_takes low bytes x fits e =
-    let a = bind_ok (number_at w64 bytes) (λ n. cond (is_above low n.0) (Ok n) (Err BadOrder)) x e in
+    let a = bind_ok (number_at Short w64 bytes) (λ n. cond (is_above low n.0) (Ok n) (Err BadOrder)) x e in
     let g = when_ok (is_above low a.0.0) BadOrder (Ok a.0) x a.2 in
-    let t = number_takes w64 bytes a.0 fits a.1 in
+    let t = number_takes Short w64 bytes a.0 fits a.1 in
     subst (λ (y : ℕ × List ℕ). Takes bytes (to_be_bytes w64 y.0) y.1 × (y.0 < 2 ^ 64) × (is_above low y.0 ≡ true)) (ok_is a.0 x g.1) (t.0, t.1, g.0)
 
 above_again : (low : Option ℕ) (n : ℕ) (rest : List ℕ) → n < 2 ^ 64 → is_above low n ≡ true → above_at low (to_be_bytes w64 n ++ rest) ≡ Ok (n, rest)
 unfolding above_at
-above_again low n rest lt above = rw (number_again w64 n rest lt, above) refl
+above_again low n rest lt above = rw (number_again Short w64 n rest lt, above) refl
 
 IsAfter-above : (last : Option TermStart) (s : TermStart) → is_above (term_of last) s.term ≡ true → is_above (lsn_of last) s.lsn ≡ true → IsAfter last s
 IsAfter-above None s h k = tt

@@ -13,16 +13,16 @@ use Rattle.ag_model.specs.declared.record.Record.{Record}
 use Rattle.ag_record.specs.declared.fault.RecordFault.{RecordFault}
 use Rattle.ag_record.specs.declared.fault.RecordFault.TheVariants.{NoMemory}
 use Rattle.ag_record.specs.Spelling.{spelling, records_spelling, HasSpelling, HaveSpelling}
+use Rattle.ag_record.specs.Steps.{◌>>=◌, number_at}
 use Rattle.ag_record.specs.Reading.{record_at, reading}
 use Rattle.ag_record.specs.Lists.{MayFail}
-use Rattle.ag_record.proofs.Fields.{Takes, Takes-then}
+use Rattle.ag_record.proofs.Steps.{bind_ok, unless_ok, when_ok, ok_is, Takes, Takes-then, number_takes, number_again}
 use Rattle.ag_record.proofs.Records.{record_takes, record_again, length-spelling}
 use Rattle.ag_record.proofs.Many.{size-least, length-records}
 use Rattle.ag_wire.specs.declared.fault.WireFault.{WireFault}
 use Rattle.ag_wire.specs.declared.fault.WireFault.TheVariants.{Short, BadLength, BadRecord}
 use Rattle.ag_wire.specs.Spelling.{ArePayload}
-use Rattle.ag_wire.specs.Reading.{◌>>=◌, Fails, number_at, as_record, wire_fault, records_of, records_in, payload_at}
-use Rattle.ag_wire.proofs.Parts.{bind_ok, unless_ok, when_ok, ok_is, number_takes, number_again}
+use Rattle.ag_wire.specs.Reading.{Fails, as_record, wire_fault, records_of, records_in, payload_at}
 
 as_record_ok : (r : Result (Record × List ℕ) RecordFault) (x : Record × List ℕ) → as_record r ≡ Ok x → r ≡ Ok x
 as_record_ok (Ok y) x e = ap (λ (z : Record × List ℕ). let r : Result (Record × List ℕ) RecordFault = Ok z in r) (ok_is y x e)
@@ -116,9 +116,9 @@ pub payload_takes : (bytes : List ℕ) (x : List Record × List ℕ) → AreByte
 unfolding payload_at
 payload_takes bytes x fits e =
     let all = λ (n : ℕ × List ℕ). records_in (take n.0 n.1) >>= λ records. Ok (records, drop n.0 n.1) in
-    let a = bind_ok (number_at w16 bytes) (λ n. cond (leb 1 n.0 && leb n.0 15488) (cond (ltb (length n.1) n.0) (Err Short) (all n)) (Err BadLength)) x e in
+    let a = bind_ok (number_at Short w16 bytes) (λ n. cond (leb 1 n.0 && leb n.0 15488) (cond (ltb (length n.1) n.0) (Err Short) (all n)) (Err BadLength)) x e in
     let n = a.0 in
-    let first = number_takes w16 bytes n fits a.1 in
+    let first = number_takes Short w16 bytes n fits a.1 in
     let g = when_ok (leb 1 n.0 && leb n.0 15488) BadLength (cond (ltb (length n.1) n.0) (Err Short) (all n)) x a.2 in
     let h = unless_ok (ltb (length n.1) n.0) Short (all n) x g.1 in
     let b = bind_ok (records_in (take n.0 n.1)) (λ records. Ok (records, drop n.0 n.1)) x h.1 in
@@ -143,7 +143,7 @@ payload_again rs rest h =
     let bounds = is_within (length text) h.least h.most in
     let long : ltb (length (text ++ rest)) (length text) ≡ false = le-ltb _ _ (omega (arith, length-append text rest)) in
     ap payload_at (append_assoc (to_be_bytes w16 (length text)) text rest)
-    ∙ (rw (number_again w16 (length text) (text ++ rest) fits, bounds, long, take_at text rest (length text) refl, drop_at text rest (length text) refl, all_records text rs h.fit refl) refl)
+    ∙ (rw (number_again Short w16 (length text) (text ++ rest) fits, bounds, long, take_at text rest (length text) refl, drop_at text rest (length text) refl, all_records text rs h.fit refl) refl)
 
 -- ---- their length, as a loop adds it up
 

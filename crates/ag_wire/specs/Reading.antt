@@ -1,6 +1,6 @@
 -- Reading a message from left to right, with the first fault that is met.
 use Rattle.std.specs.Prelude.{◌≡◌, ℕ, zero, suc, List, [], ◌∷◌, length, take, drop, Bool, true, Option, None, Some, Result, Ok, Err, nat_lt, nat_le, ◌==◌, ◌&&◌, if◌then◌else◌}
-use Rattle.std.specs.Int.{Width, w16, w32, w64, byte_len, from_be_bytes}
+use Rattle.std.specs.Int.{w16, w32, w64}
 use Rattle.ag_model.specs.declared.config.Ticket.{Ticket}
 use Rattle.ag_model.specs.declared.config.TermStart.{TermStart}
 use Rattle.ag_model.specs.declared.message.Body.TheVariants.{Hello, Resume, Block, Ack}
@@ -8,15 +8,10 @@ use Rattle.ag_model.specs.declared.message.Message.{Message}
 use Rattle.ag_model.specs.declared.record.Record.{Record}
 use Rattle.ag_record.specs.declared.fault.RecordFault.{RecordFault}
 use Rattle.ag_record.specs.declared.fault.RecordFault.TheVariants.{NoMemory as NoRecordMemory}
+use Rattle.ag_record.specs.Steps.{◌>>=◌, number_at}
 use Rattle.ag_record.specs.Reading.{record_at}
 use Rattle.ag_wire.specs.declared.fault.WireFault.{WireFault}
 use Rattle.ag_wire.specs.declared.fault.WireFault.TheVariants.{Short, BadKind, BadLength, BadOrder, BadRecord, Extra, NoMemory}
-
-infixl 10 ◌>>=◌
--- the second step reads on where the first one ended, unless that met a fault
-abbrev pub ◌>>=◌ : {A B : Type 0} → Result A WireFault → (A → Result B WireFault) → Result B WireFault
-(Ok x) >>= f = f x
-(Err e) >>= f = Err e
 
 -- memory ran out, or reading meets this fault
 abbrev pub Fails : {B : Type 0} → WireFault → Result B WireFault → Type 0
@@ -32,15 +27,11 @@ Gives view (Err e) reading = Fails e reading
 abbrev pub Answers : {A : Type 0} → Result A WireFault → Result A WireFault → Type 0
 Answers answer reading = Gives (λ x. x) answer reading
 
--- a number in front, and the bytes after it
-abbrev pub number_at : Width → List ℕ → Result (ℕ × List ℕ) WireFault
-number_at w bytes = if nat_lt (length bytes) (byte_len w) then Err Short else Ok (from_be_bytes w (take (byte_len w) bytes), drop (byte_len w) bytes)
-
 -- a ticket in front
 unfoldable pub ticket_at : List ℕ → Result (Ticket × List ℕ) WireFault
 ticket_at bytes = do
-  incarnation ← number_at w64 bytes
-  joins ← number_at w32 incarnation.1
+  incarnation ← number_at Short w64 bytes
+  joins ← number_at Short w32 incarnation.1
   Ok (record { incarnation = incarnation.0; joins = joins.0 }, joins.1)
 
 -- whether a number is above another one, where there is one
@@ -51,7 +42,7 @@ is_above (Some low) n = nat_lt low n
 -- a number in front that is above another one
 unfoldable pub above_at : Option ℕ → List ℕ → Result (ℕ × List ℕ) WireFault
 above_at low bytes = do
-  n ← number_at w64 bytes
+  n ← number_at Short w64 bytes
   if is_above low n.0 then Ok n else Err BadOrder
 
 -- the term of a start, where there is one
@@ -106,40 +97,40 @@ records_in bytes = records_of (length bytes) bytes
 -- how many bytes the records take, and the records
 unfoldable pub payload_at : List ℕ → Result (List Record × List ℕ) WireFault
 payload_at bytes = do
-  n ← number_at w16 bytes
+  n ← number_at Short w16 bytes
   if nat_le 1 n.0 && nat_le n.0 15488 then (if nat_lt (length n.1) n.0 then Err Short else (records_in (take n.0 n.1) >>= λ records. Ok (records, drop n.0 n.1))) else Err BadLength
 
 -- the fields of each kind of message, behind the kind
 unfoldable pub hello_at : List ℕ → Result (Message × List ℕ) WireFault
 hello_at bytes = do
-  term ← number_at w64 bytes
+  term ← number_at Short w64 bytes
   ticket ← ticket_at term.1
-  end ← number_at w64 ticket.1
-  count ← number_at w32 end.1
+  end ← number_at Short w64 ticket.1
+  count ← number_at Short w32 end.1
   starts ← starts_at None count.0 count.1
   Ok (record { term = term.0; body = Hello ticket.0 end.0 starts.0 }, starts.1)
 
 unfoldable pub resume_at : List ℕ → Result (Message × List ℕ) WireFault
 resume_at bytes = do
-  term ← number_at w64 bytes
+  term ← number_at Short w64 bytes
   ticket ← ticket_at term.1
-  fork ← number_at w64 ticket.1
-  end ← number_at w64 fork.1
+  fork ← number_at Short w64 ticket.1
+  end ← number_at Short w64 fork.1
   Ok (record { term = term.0; body = Resume ticket.0 fork.0 end.0 }, end.1)
 
 unfoldable pub block_at : List ℕ → Result (Message × List ℕ) WireFault
 block_at bytes = do
-  term ← number_at w64 bytes
-  block_term ← number_at w64 term.1
-  first ← number_at w64 block_term.1
+  term ← number_at Short w64 bytes
+  block_term ← number_at Short w64 term.1
+  first ← number_at Short w64 block_term.1
   records ← payload_at first.1
   Ok (record { term = term.0; body = Block (record { first = first.0; term = block_term.0; records = records.0 }) }, records.1)
 
 unfoldable pub ack_at : List ℕ → Result (Message × List ℕ) WireFault
 ack_at bytes = do
-  term ← number_at w64 bytes
-  hardened ← number_at w64 term.1
-  low ← number_at w64 hardened.1
+  term ← number_at Short w64 bytes
+  hardened ← number_at Short w64 term.1
+  low ← number_at Short w64 hardened.1
   Ok (record { term = term.0; body = Ack hardened.0 low.0 }, low.1)
 
 -- the fields of a message of this kind

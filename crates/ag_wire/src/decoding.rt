@@ -5,18 +5,19 @@ ghost use Rattle.ag_wire.specs.Spelling.{spelling, HasSpelling};
 ghost use Rattle.ag_wire.specs.Reading.{Gives, Answers, hello_at, resume_at, block_at, ack_at, message_at, reading};
 
 use crate::fault::WireFault;
-use crate::fields::{payload_of, starts_of, ticket_of, u32_at, u64_at};
+use crate::fields::{payload_of, starts_of, ticket_of};
 use ag_model::message::{Block, Body, Message};
+use ag_record::{u32_at, u64_at};
 use std::alloc::Global;
 
 #[tactic(auto, unfolding(crate::specs::Reading::hello_at))]
 fn hello_of(alloc: Global, b: &[u8]) -> Result<(Message, &[u8]), WireFault>
     ensures { Gives (λ x. (x.0, x.1.now)) result (hello_at b.now) }
 {
-    let (term, rest) = u64_at(b)?;
+    let (term, rest) = u64_at(b, WireFault::Short)?;
     let (ticket, rest) = ticket_of(rest)?;
-    let (end, rest) = u64_at(rest)?;
-    let (count, rest) = u32_at(rest)?;
+    let (end, rest) = u64_at(rest, WireFault::Short)?;
+    let (count, rest) = u32_at(rest, WireFault::Short)?;
     let (starts, rest) = starts_of(alloc, count, rest)?;
     let body = Body::Hello {
         ticket,
@@ -30,10 +31,10 @@ fn hello_of(alloc: Global, b: &[u8]) -> Result<(Message, &[u8]), WireFault>
 fn resume_of(b: &[u8]) -> Result<(Message, &[u8]), WireFault>
     ensures { Gives (λ x. (x.0, x.1.now)) result (resume_at b.now) }
 {
-    let (term, rest) = u64_at(b)?;
+    let (term, rest) = u64_at(b, WireFault::Short)?;
     let (ticket, rest) = ticket_of(rest)?;
-    let (fork, rest) = u64_at(rest)?;
-    let (end, rest) = u64_at(rest)?;
+    let (fork, rest) = u64_at(rest, WireFault::Short)?;
+    let (end, rest) = u64_at(rest, WireFault::Short)?;
     let body = Body::Resume { ticket, fork, end };
     Ok((Message { term, body }, rest))
 }
@@ -42,9 +43,9 @@ fn resume_of(b: &[u8]) -> Result<(Message, &[u8]), WireFault>
 fn block_of(alloc: Global, b: &[u8]) -> Result<(Message, &[u8]), WireFault>
     ensures { Gives (λ x. (x.0, x.1.now)) result (block_at b.now) }
 {
-    let (term, rest) = u64_at(b)?;
-    let (block_term, rest) = u64_at(rest)?;
-    let (first, rest) = u64_at(rest)?;
+    let (term, rest) = u64_at(b, WireFault::Short)?;
+    let (block_term, rest) = u64_at(rest, WireFault::Short)?;
+    let (first, rest) = u64_at(rest, WireFault::Short)?;
     let (records, rest) = payload_of(alloc, rest)?;
     let block = Block {
         first,
@@ -59,9 +60,9 @@ fn block_of(alloc: Global, b: &[u8]) -> Result<(Message, &[u8]), WireFault>
 fn ack_of(b: &[u8]) -> Result<(Message, &[u8]), WireFault>
     ensures { Gives (λ x. (x.0, x.1.now)) result (ack_at b.now) }
 {
-    let (term, rest) = u64_at(b)?;
-    let (hardened, rest) = u64_at(rest)?;
-    let (low, rest) = u64_at(rest)?;
+    let (term, rest) = u64_at(b, WireFault::Short)?;
+    let (hardened, rest) = u64_at(rest, WireFault::Short)?;
+    let (low, rest) = u64_at(rest, WireFault::Short)?;
     let body = Body::Ack { hardened, low };
     Ok((Message { term, body }, rest))
 }

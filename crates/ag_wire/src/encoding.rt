@@ -10,7 +10,7 @@ use ag_model::config::{TermStart, Ticket};
 use ag_model::message::{Block, Body, Message};
 use ag_model::record::Record;
 use ag_model::value::NoMemory;
-use ag_record::{encode_all, size};
+use ag_record::{encode_all, put_u16, put_u32, put_u64, size};
 
 fn head(kind: u8, term: u64, out: &mut Vec<u8>) -> Result<(), NoMemory>
     ensures ok { OnOk result (out.new.items ≡ out.old.items ++ head_spelling kind term) }
@@ -18,7 +18,7 @@ fn head(kind: u8, term: u64, out: &mut Vec<u8>) -> Result<(), NoMemory>
 {
     out.reserve(9)?;
     out.extend_from_slice(&[kind])?;
-    out.extend_from_slice(&term.to_be_bytes())?;
+    put_u64(term, out)?;
     Ok(())
 }
 
@@ -27,8 +27,8 @@ fn pair(a: u64, b: u64, out: &mut Vec<u8>) -> Result<(), NoMemory>
     ensures err { OnErr result (out.new.items ≡ out.old.items) }
 {
     out.reserve(16)?;
-    out.extend_from_slice(&a.to_be_bytes())?;
-    out.extend_from_slice(&b.to_be_bytes())?;
+    put_u64(a, out)?;
+    put_u64(b, out)?;
     Ok(())
 }
 
@@ -37,8 +37,8 @@ fn ticket(t: &Ticket, out: &mut Vec<u8>) -> Result<(), NoMemory>
     ensures err { OnErr result (out.new.items ≡ out.old.items) }
 {
     out.reserve(12)?;
-    out.extend_from_slice(&t.incarnation.to_be_bytes())?;
-    out.extend_from_slice(&t.joins.to_be_bytes())?;
+    put_u64(t.incarnation, out)?;
+    put_u32(t.joins, out)?;
     Ok(())
 }
 
@@ -57,7 +57,7 @@ fn starts_of(starts: &[TermStart], out: &mut Vec<u8>) -> Result<(), NoMemory>
     ensures ok { OnOk result (out.new.items ≡ out.old.items ++ starts_spelling starts.now) }
     ensures err { OnErr result (Begins out.old.items out.new.items) }
 {
-    out.extend_from_slice(&(starts.len() as u32).to_be_bytes())?;
+    put_u32(starts.len() as u32, out)?;
     each_start(starts, out)
 }
 
@@ -81,7 +81,7 @@ fn block_of(block: &Block, out: &mut Vec<u8>) -> Result<(), NoMemory>
 {
     let records = block.records.as_slice();
     pair(block.term, block.first, out)?;
-    out.extend_from_slice(&(payload_size(records) as u16).to_be_bytes())?;
+    put_u16(payload_size(records) as u16, out)?;
     encode_all(records, out)?;
     Ok(())
 }
@@ -93,7 +93,7 @@ fn hello(from: &Ticket, end: u64, starts: &[TermStart], out: &mut Vec<u8>) -> Re
     ensures err { OnErr result (Begins out.old.items out.new.items) }
 {
     ticket(from, out)?;
-    out.extend_from_slice(&end.to_be_bytes())?;
+    put_u64(end, out)?;
     starts_of(starts, out)?;
     Ok(())
 }

@@ -1,51 +1,19 @@
 //! The fields of messages from bytes.
 ghost use Rattle.std.specs.Prelude.{None};
-ghost use Rattle.std.specs.Int.{w16, w32, w64};
-ghost use Rattle.ag_wire.specs.Reading.{Gives, Answers, number_at, ticket_at, above_at, start_at, starts_at, records_in, payload_at};
+ghost use Rattle.ag_wire.specs.Reading.{Gives, Answers, ticket_at, above_at, start_at, starts_at, records_in, payload_at};
 
 use crate::fault::WireFault;
 use ag_model::config::{TermList, TermStart, Ticket};
 use ag_model::record::RecordList;
-use ag_record::decode_all;
-use byteorder::{BigEndian, ByteOrder};
+use ag_record::{decode_all, u16_at, u32_at, u64_at};
 use std::alloc::Global;
-
-fn u16_at(b: &[u8]) -> Result<(u16, &[u8]), WireFault>
-    ensures { Gives (λ x. (x.0, x.1.now)) result (number_at w16 b.now) }
-{
-    if b.len() < 2 {
-        return Err(WireFault::Short);
-    }
-    let (front, rest) = b.split_at(2);
-    Ok((BigEndian::read_u16(front), rest))
-}
-
-pub(crate) fn u32_at(b: &[u8]) -> Result<(u32, &[u8]), WireFault>
-    ensures { Gives (λ x. (x.0, x.1.now)) result (number_at w32 b.now) }
-{
-    if b.len() < 4 {
-        return Err(WireFault::Short);
-    }
-    let (front, rest) = b.split_at(4);
-    Ok((BigEndian::read_u32(front), rest))
-}
-
-pub(crate) fn u64_at(b: &[u8]) -> Result<(u64, &[u8]), WireFault>
-    ensures { Gives (λ x. (x.0, x.1.now)) result (number_at w64 b.now) }
-{
-    if b.len() < 8 {
-        return Err(WireFault::Short);
-    }
-    let (front, rest) = b.split_at(8);
-    Ok((BigEndian::read_u64(front), rest))
-}
 
 #[tactic(auto, unfolding(crate::specs::Reading::ticket_at))]
 pub(crate) fn ticket_of(b: &[u8]) -> Result<(Ticket, &[u8]), WireFault>
     ensures { Gives (λ x. (x.0, x.1.now)) result (ticket_at b.now) }
 {
-    let (incarnation, rest) = u64_at(b)?;
-    let (joins, rest) = u32_at(rest)?;
+    let (incarnation, rest) = u64_at(b, WireFault::Short)?;
+    let (joins, rest) = u32_at(rest, WireFault::Short)?;
     Ok((Ticket { incarnation, joins }, rest))
 }
 
@@ -53,7 +21,7 @@ pub(crate) fn ticket_of(b: &[u8]) -> Result<(Ticket, &[u8]), WireFault>
 fn above_of(low: Option<u64>, b: &[u8]) -> Result<(u64, &[u8]), WireFault>
     ensures { Gives (λ x. (x.0, x.1.now)) result (above_at low b.now) }
 {
-    let (number, rest) = u64_at(b)?;
+    let (number, rest) = u64_at(b, WireFault::Short)?;
     match low {
         Some(low) if number <= low => Err(WireFault::BadOrder),
         _ => Ok((number, rest)),
@@ -97,7 +65,7 @@ fn records_of(alloc: Global, b: &[u8]) -> Result<RecordList, WireFault>
 pub(crate) fn payload_of(alloc: Global, b: &[u8]) -> Result<(RecordList, &[u8]), WireFault>
     ensures { Gives (λ x. (x.0, x.1.now)) result (payload_at b.now) }
 {
-    let (len, rest) = u16_at(b)?;
+    let (len, rest) = u16_at(b, WireFault::Short)?;
     if len < 1 || len > 15_488 {
         return Err(WireFault::BadLength);
     }

@@ -8,7 +8,7 @@ use Rattle.ag_record.proofs.lists.decode_all.Goals as goal
 
 pub returns-in_err-record-clause-only : goal.returns-in_err-record-clause-only
 returns-in_err-record-clause-only c =
-    let p = err_from_is_err_and c.from_residual.result c.from_residual.ensures.1 in
+    let p = err_from_is_err_and c.from_residual-in_err-record.result c.from_residual-in_err-record.ensures.1 in
     let f = c.in_err-record.field-0.0 in
     let some : 1 ≤ length c.loop-rest.rest.now = grind (arith, nat_tests) in
     λ rs h e. rw (p.1, p.2) (only_memory c.args.b.now rs f h e (stops_here c.args.b.now c.loop-rest.records.items c.loop-rest.rest.now f c.loop-rest.invariant.fits c.loop-rest.invariant.parts some c.in_err-record.ensures.exact))
