@@ -1,0 +1,4 @@
+pub mod Spelling
+pub mod Image
+pub mod Reading
+pub mod Home

@@ -1,0 +1,11 @@
+pub mod Following
+pub mod Lists
+pub mod Removing
+pub mod Stamping
+pub mod Greatest
+pub mod Endings
+pub mod Versions
+pub mod Untrimmed
+pub mod Prefixes
+pub mod Redone
+pub mod Untouched

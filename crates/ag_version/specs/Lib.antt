@@ -1,0 +1,4 @@
+pub mod Edits
+pub mod Trimming
+pub mod Picking
+pub mod Steps
