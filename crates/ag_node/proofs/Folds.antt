@@ -36,9 +36,9 @@ put_left txn key t k new before left false false p q r = rw (p, r) refl
 
 same_test : (a b : ℕ) → (b == a) ≡ (a == b)
 same_test a b = elim (eqb_tells a b) [
-    | inl e ↦ eq-eqb b a (sym e.1) ∙ sym e.0
-    | inr e ↦ ne_eqb b a (λ h. e.1 (sym h)) ∙ sym e.0
-  ]
+  | inl e ↦ eq-eqb b a (sym e.1) ∙ sym e.0
+  | inr e ↦ ne_eqb b a (λ h. e.1 (sym h)) ∙ sym e.0
+]
 
 one_left : (txn key : ℕ) (before : Row) (left : Option Row) (r : Record) → fold (row_after key) (unwrap_or left before) (change_by txn r) ≡ unwrap_or (left_after txn left (change_of key r)) before
 one_left txn key before left (Put t k value) = put_left txn key t k (Found value) before left (txn == t) (key == k) refl (same_test txn t) refl

@@ -76,9 +76,9 @@ none_of stripe page ds = sym (set_where_none page ds) ∙ set_where_same (λ p. 
 -- one page of a stripe, or not of it
 pub one_of : (stripe : Option ℕ) (at first : ℕ) (ds : List Bool) → set_where (λ p. is_of stripe at && (p == at)) first ds ≡ set_where (λ p. is_of stripe p && (p == at)) first ds
 one_of stripe at first ds = set_where_same (λ p. is_of stripe at && (p == at)) (λ p. is_of stripe p && (p == at)) first ds (λ p. elim (eqb_tells p at) [
-    | inl e ↦ ap (λ (q : ℕ). is_of stripe q && (p == at)) (sym e.1)
-    | inr e ↦ ap (λ (b : Bool). is_of stripe at && b) e.0 ∙ and-false (is_of stripe at) ∙ sym (and-false (is_of stripe p)) ∙ ap (λ (b : Bool). is_of stripe p && b) (sym e.0)
-  ])
+  | inl e ↦ ap (λ (q : ℕ). is_of stripe q && (p == at)) (sym e.1)
+  | inr e ↦ ap (λ (b : Bool). is_of stripe at && b) e.0 ∙ and-false (is_of stripe at) ∙ sym (and-false (is_of stripe p)) ∙ ap (λ (b : Bool). is_of stripe p && b) (sym e.0)
+])
 
 pub one_in : (stripe : Option ℕ) (at first : ℕ) (ds : List Bool) (in_ : Bool) → in_ ≡ is_of stripe at → in_ ≡ true → set_where (λ p. p == at) first ds ≡ set_where (λ p. is_of stripe p && (p == at)) first ds
 one_in stripe at first ds in_ is h = ap (λ (b : Bool). set_where (λ p. b && (p == at)) first ds) (sym h ∙ is) ∙ one_of stripe at first ds
@@ -106,16 +106,16 @@ stripe_more ss log pages k p =
     let here = λ (b : Bool). b && list_any (touches pages p) (drop (get_or ss k no_stripe).applied log) in
     elim (cases_order (stripe_of p) k) [
       | inl e ↦
-        ap₂ (λ (b c : Bool). (b && t) || here c) (le-ltb (stripe_of p) k (omega (arith, e))) (eq-eqb (stripe_of p) k e)
-        ∙ ap (λ (q : ℕ). list_any (touches pages p) (drop (get_or ss q no_stripe).applied log)) (sym e)
-        ∙ ap (λ (b : Bool). b && t) (sym (lt-ltb (stripe_of p) (k + 1) (omega (arith, e))))
+          ap₂ (λ (b c : Bool). (b && t) || here c) (le-ltb (stripe_of p) k (omega (arith, e))) (eq-eqb (stripe_of p) k e)
+          ∙ ap (λ (q : ℕ). list_any (touches pages p) (drop (get_or ss q no_stripe).applied log)) (sym e)
+          ∙ ap (λ (b : Bool). b && t) (sym (lt-ltb (stripe_of p) (k + 1) (omega (arith, e))))
       | inr (inl l) ↦
-        ap₂ (λ (b c : Bool). (b && t) || here c) (lt-ltb (stripe_of p) k l) (ne_eqb (stripe_of p) k (λ e. omega arith))
-        ∙ or-false t
-        ∙ ap (λ (b : Bool). b && t) (sym (lt-ltb (stripe_of p) (k + 1) (omega (arith, l))))
+          ap₂ (λ (b c : Bool). (b && t) || here c) (lt-ltb (stripe_of p) k l) (ne_eqb (stripe_of p) k (λ e. omega arith))
+          ∙ or-false t
+          ∙ ap (λ (b : Bool). b && t) (sym (lt-ltb (stripe_of p) (k + 1) (omega (arith, l))))
       | inr (inr g) ↦
-        ap₂ (λ (b c : Bool). (b && t) || here c) (le-ltb (stripe_of p) k (omega (arith, g))) (ne_eqb (stripe_of p) k (λ e. omega arith))
-        ∙ ap (λ (b : Bool). b && t) (sym (le-ltb (stripe_of p) (k + 1) (omega (arith, g))))
+          ap₂ (λ (b c : Bool). (b && t) || here c) (le-ltb (stripe_of p) k (omega (arith, g))) (ne_eqb (stripe_of p) k (λ e. omega arith))
+          ∙ ap (λ (b : Bool). b && t) (sym (le-ltb (stripe_of p) (k + 1) (omega (arith, g))))
     ]
 
 pub marked_stripe : (ss : List Stripe) (log : List Record) (before now after : List Bool) (k applied : ℕ) → length now ≡ length before → applied ≡ (get_or ss k no_stripe).applied

@@ -192,9 +192,9 @@ contains-filter-filter f p (x ∷ xs) =
 in_stripe : (ss : List Stripe) (pages x high p : ℕ) (rs : List Record)
     → ((stripe_of p == x) && list_any (touches pages p) (after_to (get_or ss (stripe_of p) no_stripe).applied high rs)) ≡ ((stripe_of p == x) && list_any (touches pages p) (after_to (get_or ss x no_stripe).applied high rs))
 in_stripe ss pages x high p rs = elim (eqb_tells (stripe_of p) x) [
-    | inl e ↦ ap (λ (y : ℕ). (stripe_of p == x) && list_any (touches pages p) (after_to (get_or ss y no_stripe).applied high rs)) e.1
-    | inr e ↦ ap (λ (b : Bool). b && list_any (touches pages p) (after_to (get_or ss (stripe_of p) no_stripe).applied high rs)) e.0 ∙ ap (λ (b : Bool). b && list_any (touches pages p) (after_to (get_or ss x no_stripe).applied high rs)) (sym e.0)
-  ]
+  | inl e ↦ ap (λ (y : ℕ). (stripe_of p == x) && list_any (touches pages p) (after_to (get_or ss y no_stripe).applied high rs)) e.1
+  | inr e ↦ ap (λ (b : Bool). b && list_any (touches pages p) (after_to (get_or ss (stripe_of p) no_stripe).applied high rs)) e.0 ∙ ap (λ (b : Bool). b && list_any (touches pages p) (after_to (get_or ss x no_stripe).applied high rs)) (sym e.0)
+]
 
 -- the node once a stripe went to an LSN
 pub apply_after : (leads : Bool) (log : Log) (ss : List Stripe) (ds : List Bool) (leading : Leading) (x high : ℕ)
@@ -207,8 +207,8 @@ apply_after leads log ss ds leading x high =
     ap (λ (s : Replica). record s { stripes = set ss x (record (get_or ss x no_stripe) { applied = high }) })
     (redone_where leads log ss ds leading (touched_in_stripe (length ds) r x high) (λ p. is_of (Some x) p && list_any (touches (length ds) p) new)
     (λ p l h. contains-filter-filter (λ q. stripe_of q == x) p (filter touched (page_numbers (length ds)))
-      ∙ ap (λ (b : Bool). (stripe_of p == x) && b) (contains-filter touched p 16 (length ds) l h)
-      ∙ in_stripe ss (length ds) x high p log.records))
+    ∙ ap (λ (b : Bool). (stripe_of p == x) && b) (contains-filter touched p 16 (length ds) l h)
+    ∙ in_stripe ss (length ds) x high p log.records))
 
 pub applies_is : (leads : Bool) (log : Log) (ss : List Stripe) (ds : List Bool) (leading : Leading) (x high : ℕ) →
     (let r = node_of leads log ss ds leading in applies_touching (length ds) r x high (touched_in_stripe (length ds) r x high))

@@ -60,12 +60,7 @@ fn after_record(left: &HashMap<u64, Row>, entry: &Record, before: Row) -> Row
 }
 
 /// The row of a key after the first records of a log. It takes time in their number.
-pub(crate) fn row_at(
-    alloc: Global,
-    log: &[Record],
-    front: usize,
-    key: u32,
-) -> Result<Row, NoMemory>
+pub(crate) fn row_at(alloc: Global, log: &[Record], front: usize, key: u32) -> Result<Row, NoMemory>
     requires { front ≤ length log.now }
     ensures { IfOk result (λ row. row ≡ rows log.now front key) }
 {
@@ -157,7 +152,11 @@ mod tests {
             (7, Row::Absent, 4),
         ] {
             assert_eq!(rt; row_at(alloc, &log, front, 5)?, row, "after {front}");
-            assert_eq!(rt; row_at(alloc, &log, front, 6)?, Row::Absent, "after {front}");
+            assert_eq!(rt;
+                row_at(alloc, &log, front, 6)?,
+                Row::Absent,
+                "after {front}"
+            );
             assert_eq!(rt; horizon_at(16, &log, front, 21), horizon, "after {front}");
             assert_eq!(rt; horizon_at(16, &log, front, 22), 0, "after {front}");
         }

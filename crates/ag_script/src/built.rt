@@ -27,13 +27,22 @@ pub(crate) fn is_built(event: &Event) -> bool
         | Event::Read { node, suffix, .. } => is_letter(node) && *suffix == Suffix::Whole,
         Event::Send { node, to, suffix }
         | Event::Deliver {
-            node, to, suffix, ..
+            node,
+            to,
+            suffix,
+            ..
         }
         | Event::Repeat {
-            node, to, suffix, ..
+            node,
+            to,
+            suffix,
+            ..
         }
         | Event::Lose {
-            node, to, suffix, ..
+            node,
+            to,
+            suffix,
+            ..
         } => is_letter(node) && is_letter(to) && *suffix == Suffix::Whole,
         _ => false,
     }
