@@ -87,7 +87,13 @@ impl Group {
     }
 
     /// `deliver` and `repeat`: the message of a number from n to m arrives; where it is repeated it stays in its place.
-    pub(super) fn deliver(&mut self, n: u8, m: u8, number: u16, repeats: bool) -> Result<Answer, NoMemory>
+    pub(super) fn deliver(
+        &mut self,
+        n: u8,
+        m: u8,
+        number: u16,
+        repeats: bool,
+    ) -> Result<Answer, NoMemory>
         requires from { n < length self.old.config.modes }
         requires to { m < length self.old.config.modes }
         requires number { 1 ≤ number }
@@ -102,7 +108,13 @@ impl Group {
 
     /// The same; each message that may arrive is one of those that are sent so far.
     #[tactic(auto, unfolding(ag_rules::specs::DeliverEvent::plan_of_deliver))]
-    fn deliver_message(&mut self, n: u8, m: u8, number: u16, repeats: bool) -> Result<Answer, NoMemory>
+    fn deliver_message(
+        &mut self,
+        n: u8,
+        m: u8,
+        number: u16,
+        repeats: bool,
+    ) -> Result<Answer, NoMemory>
         requires from { n < length self.old.config.modes }
         requires to { m < length self.old.config.modes }
         requires number { 1 ≤ number }

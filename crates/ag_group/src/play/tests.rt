@@ -136,7 +136,12 @@ fn fills_a_page_to_its_last_byte(rt: HostRuntime) -> Result<(), Fail> {
     let (mut text, mut wanted) = (Vec::new(alloc), Vec::new(alloc));
     for i in 0..86usize {
         push_set(alloc, &mut text, 0, 64)?;
-        push_number(alloc, &mut wanted, b"lsn ", i.wrapping_mul(2).wrapping_add(3))?;
+        push_number(
+            alloc,
+            &mut wanted,
+            b"lsn ",
+            i.wrapping_mul(2).wrapping_add(3),
+        )?;
     }
     for bytes in [31, 30, 0] {
         push_set(alloc, &mut text, 0, bytes)?;
@@ -152,7 +157,12 @@ fn fills_the_buffer(rt: HostRuntime) -> Result<(), Fail> {
     let (mut text, mut wanted) = (Vec::new(alloc), Vec::new(alloc));
     for i in 0..168usize {
         push_set(alloc, &mut text, i, 64)?;
-        push_number(alloc, &mut wanted, b"lsn ", i.wrapping_mul(2).wrapping_add(3))?;
+        push_number(
+            alloc,
+            &mut wanted,
+            b"lsn ",
+            i.wrapping_mul(2).wrapping_add(3),
+        )?;
     }
     for bytes in [64, 4] {
         push_set(alloc, &mut text, 7, bytes)?;
