@@ -1,14 +1,17 @@
 -- Which event lines are built so far, what they send, and how many a scenario may have.
-use Rattle.std.specs.Prelude.{◌≡◌, ◌<◌, ℕ, List, length}
+use Rattle.std.specs.Prelude.{◌≡◌, ℕ, List}
 use Rattle.std.specs.List.{AllByRecursion}
 use Rattle.ag_model.specs.declared.event.Who.{Who}
 use Rattle.ag_model.specs.declared.event.Who.TheVariants.{Letter, Primary}
+use Rattle.ag_model.specs.declared.event.Pair.{Pair}
 use Rattle.ag_model.specs.declared.event.Suffix.TheVariants.{Whole}
 use Rattle.ag_model.specs.declared.event.Event.{Event}
 use Rattle.ag_model.specs.declared.event.Event.TheVariants.{Set, Harden, Send, Deliver, Repeat, Lose, Apply, Raise, Redo, Read}
 use Rattle.ag_model.specs.declared.message.Message.{Message}
 use Rattle.ag_model.specs.declared.message.Body.{Body}
 use Rattle.ag_model.specs.declared.message.Body.TheVariants.{Block, Ack}
+use Rattle.ag_record.specs.Spelling.{IsValue}
+use Rattle.ag_wire.specs.Spelling.{HasSpelling}
 
 -- a word that is the letter of a replica
 abbrev pub IsLetter : Who → Type 0
@@ -33,15 +36,28 @@ IsBuilt _ = ⊥
 abbrev pub AreBuilt : List Event → Type 0
 AreBuilt es = AllByRecursion IsBuilt es
 
--- what a message of these events says: a block of some records, or an Ack
+-- a pair whose value has zeros after its bytes
+abbrev pub IsPair : Pair → Type 0
+IsPair pair = IsValue pair.value
+
+-- the values of the event are such as a line spells them
+abbrev pub HasValues : Event → Type 0
+HasValues (Set w pairs suffix) = AllByRecursion IsPair pairs
+HasValues _ = Unit {0}
+
+-- the same of each of these events
+abbrev pub HaveValues : List Event → Type 0
+HaveValues es = AllByRecursion HasValues es
+
+-- what a message of these events says: a block, or an Ack
 abbrev pub IsBuiltBody : Body → Type 0
-IsBuiltBody (Block b) = 0 < length b.records
+IsBuiltBody (Block b) = Unit {0}
 IsBuiltBody (Ack hardened low) = Unit {0}
 IsBuiltBody _ = ⊥
 
--- a message of these events
+-- a message of these events, which has its bytes
 abbrev pub IsBuiltMessage : Message → Type 0
-IsBuiltMessage message = IsBuiltBody message.body
+IsBuiltMessage message = IsBuiltBody message.body × HasSpelling message
 
 -- the most event lines that a scenario may have
 abbrev pub most_events : ℕ
