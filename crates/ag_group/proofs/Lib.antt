@@ -4,3 +4,5 @@ pub mod Openings
 pub mod Refused
 pub mod Runs
 pub mod Scenarios
+pub mod Replies
+pub mod Taking

@@ -80,11 +80,11 @@ unless_out [] r part h = h
 unless_out (c ∷ cs) r part h = elim (c.when) as (λ b. (if b then refused c.refusal r else unless cs r part).out ≡ []) [ true ↦ refl | false ↦ unless_out cs r part h ]
 
 -- no case sends anything
-abbrev NoneSends : List Case → Type 0
+abbrev pub NoneSends : List Case → Type 0
 NoneSends [] = Unit {0}
 NoneSends (c ∷ cs) = (c.part.out ≡ []) × NoneSends cs
 
-case_out : (cs : List Case) (last : Part) → NoneSends cs → last.out ≡ [] → (first_case cs last).out ≡ []
+pub case_out : (cs : List Case) (last : Part) → NoneSends cs → last.out ≡ [] → (first_case cs last).out ≡ []
 case_out [] last none h = h
 case_out (c ∷ cs) last none h = elim (c.when) as (λ b. (if b then c.part else first_case cs last).out ≡ []) [ true ↦ none.0 | false ↦ case_out cs last none.1 h ]
 

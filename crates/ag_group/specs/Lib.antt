@@ -1,6 +1,7 @@
 pub mod Arrivals
 pub mod CommandWords
 pub mod Groups
+pub mod InFlight
 pub mod Played
 pub mod Ran
 pub mod Refusals

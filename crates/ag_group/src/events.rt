@@ -2,7 +2,7 @@
 ghost use Rattle.std.specs.Prelude.{◌≡◌, ◌≤◌, IsErrOf, OnOk, IfOk};
 ghost use Rattle.ag_outside.specs.Counts.{HasRisen};
 ghost use Rattle.ag_rules.specs.Script.{IsConfig, IsScript};
-ghost use Rattle.ag_built.specs.Built.{AreBuilt};
+ghost use Rattle.ag_built.specs.Built.{AreBuilt, HaveValues};
 ghost use Rattle.ag_transcript.specs.Transcript.{header_text, line};
 ghost use Rattle.ag_transcript.specs.Answers.{answer_text};
 ghost use Rattle.ag_group.specs.Ran.{HasRun, HasRunInPart};
@@ -35,6 +35,7 @@ pub(crate) fn run_events<K: Sink>(
     requires config { IsConfig c.now }
     requires script { IsScript c.now events.now }
     requires built { AreBuilt events.now }
+    requires values { HaveValues events.now }
     ensures ok { OnOk result (HasRun c.now events.now (K.taken sink.old) (K.taken sink.new)) }
     ensures part { HasRunInPart c.now events.now (K.taken sink.old) (K.taken sink.new) }
     ensures fault { IsErrOf result RunError.WriteFault → HasRisen (K.faults sink.old) (K.faults sink.new) }

@@ -3,7 +3,7 @@ ghost use Rattle.std.specs.Prelude.{◌≡◌, ◌<◌, IfOk, OnOk, length};
 ghost use Rattle.ag_rules.specs.Group.{opening};
 ghost use Rattle.ag_rules.specs.Next.{named};
 ghost use Rattle.ag_rules.specs.Script.{IsConfig, IsEvent, IsWho};
-ghost use Rattle.ag_built.specs.Built.{IsBuilt};
+ghost use Rattle.ag_built.specs.Built.{IsBuilt, HasValues};
 ghost use Rattle.ag_rules.specs.Allowed.{IsAllowed, next};
 ghost use Rattle.ag_group.specs.Refusals.{IsLeft};
 
@@ -72,6 +72,7 @@ impl Group {
     pub fn step(&mut self, alloc: Global, event: &Event) -> Result<Answer, NoMemory>
         requires built { IsBuilt event.now }
         requires event { IsEvent self.old.config event.now }
+        requires values { HasValues event.now }
         ensures allowed { IfOk result (IsAllowed self.old event.now) }
         ensures next { OnOk result (self.new ≡ next self.old event.now) }
         // A refused event leaves the group, but for the named refusals.
@@ -109,7 +110,7 @@ impl Group {
                 suffix: _,
             } => {
                 let (n, m) = (self.named(node), self.named(to));
-                let answer = self.deliver(n, m, *number, false)?;
+                let answer = self.deliver(alloc, n, m, *number, false)?;
                 Ok(answer)
             }
             Event::Repeat {
@@ -119,7 +120,7 @@ impl Group {
                 suffix: _,
             } => {
                 let (n, m) = (self.named(node), self.named(to));
-                let answer = self.deliver(n, m, *number, true)?;
+                let answer = self.deliver(alloc, n, m, *number, true)?;
                 Ok(answer)
             }
             Event::Lose {

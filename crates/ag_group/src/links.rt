@@ -1,33 +1,36 @@
 //! The messages in flight.
-ghost use Rattle.std.specs.Prelude.{◌≡◌, ◌<◌, ◌≤◌, ◌+◌, ◌-◌, ◌++◌, ◌∷◌, [], length, take, drop, set, get_or, slice_get, Some, None, MatchOption, IfSome, IfOk, OnOk, nat_le, replicate};
+ghost use Rattle.std.specs.Prelude.{◌≡◌, ◌<◌, ◌≤◌, ◌+◌, ◌-◌, ◌++◌, ◌∷◌, [], length, take, drop, set, get_or, slice_get, IfSome, IfOk, OnOk, nat_le, replicate, false};
+ghost use Rattle.std.specs.Option.{is_some};
 ghost use Rattle.ag_built.specs.Built.{IsBuiltMessage};
 
+use ag_link::{LinkFault, MessageBytes};
 use ag_model::message::Message;
 use ag_model::value::NoMemory;
+use ag_wire::laws::spellings;
+use ag_wire::{WireFault, decode, encode};
 use std::alloc::Global;
-use std::collections::VecDeque;
 use std::marker::Model;
 
 /// The most messages that a link holds.
 const MOST_MESSAGES: usize = 1024;
 
-/// The messages in flight from one replica to another, the oldest first.
+/// The messages in flight from one replica to another, the oldest first, as bytes.
 #[derive(Drop)]
 pub(crate) struct Link {
-    messages: VecDeque<Message>,
+    messages: ag_link::Link,
 }
 
 impl Model for Link {
     ghost use Rattle.std.specs.Prelude.{List};
     ghost use Rattle.std.specs.List.{AllByRecursion};
     ghost use Rattle.ag_model.specs.declared.message.Message.{Message};
-    ghost use Rattle.ag_built.specs.Built.{IsBuiltMessage};
+    ghost use Rattle.ag_group.specs.InFlight.{messages_of, IsInFlight};
 
     ghost Value = { List Message };
 
-    ghost view = { λ l. l.messages.items };
+    ghost view = { λ l. messages_of l.messages };
 
-    ghost invariant = { λ l. AllByRecursion IsBuiltMessage l.messages.items };
+    ghost invariant = { λ l. AllByRecursion IsInFlight l.messages };
 }
 
 impl Link {
@@ -36,7 +39,7 @@ impl Link {
         ensures { result ≡ [] }
     {
         Link {
-            messages: VecDeque::new(alloc),
+            messages: ag_link::Link::new(alloc),
         }
     }
 
@@ -47,12 +50,32 @@ impl Link {
         self.messages.len() >= MOST_MESSAGES
     }
 
-    /// The message of a number, counted from the oldest, from 1.
-    fn message(&self, number: u16) -> Option<&Message>
-        ensures found { MatchOption result (slice_get self.now (number - 1) ≡ None) (λ message. slice_get self.now (number - 1) ≡ Some message.now) }
-        ensures built { IfSome result (λ message. IsBuiltMessage message.now) }
+    /// The message of a number, counted from the oldest, from 1. Each message in a link is read.
+    fn message(&self, alloc: Global, number: u16) -> Result<Option<Message>, NoMemory>
+        requires some { 0 < number }
+        ensures found { IfOk result (λ found. found ≡ slice_get self.now (number - 1)) }
+        ensures built { IfOk result (λ found. IfSome found IsBuiltMessage) }
     {
-        self.messages.get(usize::from(number.saturating_sub(1)))
+        spellings();
+        let bytes = match self.messages.copy(number) {
+            Ok(bytes) => bytes,
+            Err(LinkFault::NoSuchMessage) => return Ok(None),
+            Err(LinkFault::NoMemory) => return Err(NoMemory),
+            Err(LinkFault::LinkFull) => unreachable!(),
+        };
+        match decode(alloc, bytes.as_slice()) {
+            Ok(message) => Ok(Some(message)),
+            Err(WireFault::NoMemory) => Err(NoMemory),
+            Err(_) => unreachable!(),
+        }
+    }
+
+    /// Whether a message has this number.
+    fn has(&self, number: u16) -> bool
+        requires some { 0 < number }
+        ensures { result ≡ is_some (slice_get self.now (number - 1)) }
+    {
+        usize::from(number) <= self.messages.len()
     }
 
     /// Takes the message of a number out.
@@ -60,25 +83,23 @@ impl Link {
         requires some { 0 < number }
         ensures { self.new ≡ take (number - 1) self.old ++ drop number self.old }
     {
-        remove_at(&mut self.messages, usize::from(number) - 1);
+        let _ = self.messages.drop_at(number);
     }
 
     /// Adds a message at the end.
-    fn push(&mut self, message: Message) -> Result<(), NoMemory>
-        requires { IsBuiltMessage message }
-        ensures { OnOk result (self.new ≡ self.old ++ message ∷ []) }
+    fn push(&mut self, alloc: Global, message: &Message) -> Result<(), NoMemory>
+        requires built { IsBuiltMessage message.now }
+        requires room { nat_le 1024 (length self.old) ≡ false }
+        ensures { OnOk result (self.new ≡ self.old ++ message.now ∷ []) }
     {
-        self.messages.push_back(message)?;
-        Ok(())
-    }
-}
-
-/// Takes the message at a place out, if there is one.
-fn remove_at(messages: &mut VecDeque<Message>, place: usize)
-    ensures { messages.new.items ≡ take place messages.old.items ++ drop (place + 1) messages.old.items }
-{
-    if place < messages.len() {
-        let _ = messages.remove(place);
+        spellings();
+        let mut bytes = Vec::new(alloc);
+        encode(message, &mut bytes)?;
+        match self.messages.send(MessageBytes::from_vec(bytes)) {
+            Ok(()) => Ok(()),
+            Err(LinkFault::NoMemory) => Err(NoMemory),
+            Err(_) => unreachable!(),
+        }
     }
 }
 
@@ -118,12 +139,27 @@ impl Links {
     }
 
     /// The message of a number from 1 in the link to m.
-    pub(crate) fn message(&self, m: u8, number: u16) -> Option<&Message>
-        requires { m < length self.now }
-        ensures found { MatchOption result (slice_get (get_or self.now m []) (number - 1) ≡ None) (λ message. slice_get (get_or self.now m []) (number - 1) ≡ Some message.now) }
-        ensures built { IfSome result (λ message. IsBuiltMessage message.now) }
+    pub(crate) fn message(
+        &self,
+        alloc: Global,
+        m: u8,
+        number: u16,
+    ) -> Result<Option<Message>, NoMemory>
+        requires within { m < length self.now }
+        requires some { 0 < number }
+        ensures found { IfOk result (λ found. found ≡ slice_get (get_or self.now m []) (number - 1)) }
+        ensures built { IfOk result (λ found. IfSome found IsBuiltMessage) }
     {
-        self.links[usize::from(m)].message(number)
+        self.links[usize::from(m)].message(alloc, number)
+    }
+
+    /// Whether a message in the link to m has this number.
+    pub(crate) fn has(&self, m: u8, number: u16) -> bool
+        requires within { m < length self.now }
+        requires some { 0 < number }
+        ensures { result ≡ is_some (slice_get (get_or self.now m []) (number - 1)) }
+    {
+        self.links[usize::from(m)].has(number)
     }
 
     /// Takes the message of a number out of the link to m.
@@ -137,14 +173,15 @@ impl Links {
     }
 
     /// Adds a message at the end of the link to m.
-    pub(crate) fn push(&mut self, m: u8, message: Message) -> Result<(), NoMemory>
+    pub(crate) fn push(&mut self, alloc: Global, m: u8, message: &Message) -> Result<(), NoMemory>
         requires within { m < length self.old }
-        requires built { IsBuiltMessage message }
-        ensures ok { OnOk result (self.new ≡ set self.old m (get_or self.old m [] ++ message ∷ [])) }
+        requires built { IsBuiltMessage message.now }
+        requires room { nat_le 1024 (length (get_or self.old m [])) ≡ false }
+        ensures ok { OnOk result (self.new ≡ set self.old m (get_or self.old m [] ++ message.now ∷ [])) }
         ensures count { length self.new ≡ length self.old }
     {
         let link = &mut self.links[usize::from(m)];
-        link.push(message)?;
+        link.push(alloc, message)?;
         Ok(())
     }
 }

@@ -8,7 +8,7 @@ use Rattle.ag_model.specs.declared.event.Pair.{Pair}
 use Rattle.ag_model.specs.declared.event.Event.{Event}
 use Rattle.ag_model.specs.declared.event.Event.TheVariants.{Begin, Get, Put, Del, Commit, Rollback, Set, Trim, Harden, Ack, Send, Deliver, Repeat, Lose, Apply, Raise, Redo, Read, Snap, View, Close, Report, Flush, Crash, Start, Spoil, Unread, Ask, Suspects, Page, Sectors, Status, Cut, Mend, Join, Resume, Sync, Timeout, Planned, Auto, Force, Finish}
 use Rattle.ag_rules.specs.Script.{IsWho, IsEvent, IsScript}
-use Rattle.ag_built.specs.Built.{AreBuilt}
+use Rattle.ag_built.specs.Built.{AreBuilt, IsPair, HasValues, HaveValues}
 use Rattle.ag_script.specs.Words.{Word, Name, Node, Other, Number, Bytes, Mask, Spells, SpellsAll, HasPairs, IsValue, words_of, pair_words, suffix_words}
 use Rattle.ag_script.specs.Lines.{words, IsLine, AreLines, IsScriptText}
 
@@ -44,6 +44,17 @@ values_in_range [] more h = tt
 values_in_range (p ∷ pairs) more h =
     let s = subst (λ (ws : List Word). AllInRange (ws ++ more)) (flat_map-cons pair_words p pairs) h in
     (s.1.0.few, values_in_range pairs more s.1.1)
+
+-- each value has zeros after its bytes
+pairs_have_values : (pairs : List Pair) (more : List Word) → AllInRange (flat_map pair_words pairs ++ more) → AllByRecursion IsPair pairs
+pairs_have_values [] more h = tt
+pairs_have_values (p ∷ pairs) more h =
+    let s = subst (λ (ws : List Word). AllInRange (ws ++ more)) (flat_map-cons pair_words p pairs) h in
+    (record { room = s.1.0.whole; most = s.1.0.few; zeros = s.1.0.zeros }, pairs_have_values pairs more s.1.1)
+
+event_has_values : (c : Config) (e : Event) → AllInRange (words_of c e) → HasValues e
+event_has_values c (Set n pairs s) h = pairs_have_values pairs (suffix_words s) h.1.1
+event_has_values c _ h = tt
 
 below : {n k : ℕ} → n ≤ k → n < k + 1
 below h = omega arith
@@ -98,13 +109,20 @@ event_in_range c (Finish n s) h count = h.1.0
 pub line_in_range : (c : Config) (line : List ℕ) (e : Event) → IsLine c line e → IsEvent c e
 line_in_range c line e h = event_in_range c e (words_in_range (words_of c e) (words line) h.0.0) h.0.1
 
-lines_in_range : (c : Config) (lines : List (List ℕ)) (es : List Event) → AreLines c lines es → IsScript c es × AreBuilt es
-lines_in_range c [] es h = subst (λ (x : List Event). IsScript c x × AreBuilt x) (sym h) (tt, tt)
+line_has_values : (c : Config) (line : List ℕ) (e : Event) → IsLine c line e → HasValues e
+line_has_values c line e h = event_has_values c e (words_in_range (words_of c e) (words line) h.0.0)
+
+-- what is read is in range and built, and has its values
+abbrev pub IsInRange : Config → List Event → Type 0
+IsInRange c es = IsScript c es × AreBuilt es × HaveValues es
+
+lines_in_range : (c : Config) (lines : List (List ℕ)) (es : List Event) → AreLines c lines es → IsInRange c es
+lines_in_range c [] es h = subst (IsInRange c) (sym h) (tt, tt, tt)
 lines_in_range c (line ∷ lines) es (inl h) = lines_in_range c lines es h.1
 lines_in_range c (line ∷ lines) es (inr h) =
     let rest = lines_in_range c lines h.1 h.4 in
-    subst (λ (x : List Event). IsScript c x × AreBuilt x) (sym h.2) ((line_in_range c line h.0 h.3, rest.0), (h.3.1, rest.1))
+    subst (IsInRange c) (sym h.2) ((line_in_range c line h.0 h.3, rest.0), (h.3.1, rest.1), (line_has_values c line h.0 h.3, rest.2))
 
-pub result_in_range : {E : Type 0} (c : Config) (text : List ℕ) (r : Result (List Event) E) → IfOk r (λ es. IsScriptText c text es) → IfOk r (λ es. IsScript c es) × IfOk r (λ es. AreBuilt es)
+pub result_in_range : {E : Type 0} (c : Config) (text : List ℕ) (r : Result (List Event) E) → IfOk r (λ es. IsScriptText c text es) → IfOk r (λ es. IsScript c es) × IfOk r (λ es. AreBuilt es) × IfOk r (λ es. HaveValues es)
 result_in_range c text (Ok es) h = lines_in_range c h.lines es h.say
-result_in_range c text (Err e) h = (tt, tt)
+result_in_range c text (Err e) h = (tt, tt, tt)

@@ -2,7 +2,7 @@
 ghost use Rattle.std.specs.Prelude.{◌≡◌, ℕ, ◌+◌, ◌<◌, ◌≤◌, ◌^◌, ◌⊎◌, length, IfOk, IsErrOf, IsTrue, ◌↔◌, Err, List, MatchResult};
 ghost use Rattle.ag_model.specs.declared.event.Event.{Event};
 ghost use Rattle.ag_rules.specs.Script.{IsConfig, IsScript};
-ghost use Rattle.ag_built.specs.Built.{AreBuilt};
+ghost use Rattle.ag_built.specs.Built.{AreBuilt, HaveValues};
 ghost use Rattle.ag_script.specs.Lines.{IsSkipped, IsScriptText, IsFirstBad, IsTooMany};
 ghost use Rattle.ag_script.specs.LineKinds.{IsOfKind};
 
@@ -38,6 +38,7 @@ pub fn read_events(
     ensures script { IfOk result (λ events. IsScriptText c.now text.now events) }
     ensures in_range { IfOk result (λ events. IsScript c.now events) }
     ensures built { IfOk result (λ events. AreBuilt events) }
+    ensures values { IfOk result (λ events. HaveValues events) }
     ensures bad_line { (line : ℕ) → result ≡ Err (ScriptFault.BadLine line) →
         (before : ℕ) × (line ≡ first_line + before) × IsFirstBad c.now text.now before }
     ensures events { IsErrOf result ScriptFault.Events → IsTooMany c.now text.now }

@@ -1,5 +1,5 @@
 //! The events of the links.
-ghost use Rattle.std.specs.Prelude.{◌≡◌, ◌<◌, ◌≤◌, IfOk, OnOk, IfSome, length, ◌-◌, ◌==◌, Some, slice_get, true, false};
+ghost use Rattle.std.specs.Prelude.{◌≡◌, ◌<◌, ◌≤◌, IfOk, OnOk, IfSome, length, ◌-◌, ◌==◌, Some, slice_get, true, false, if◌then◌else◌};
 ghost use Rattle.std.specs.Option.{is_some};
 ghost use Rattle.ag_rules.specs.Group.{replica, with_replica, is_full, link};
 ghost use Rattle.ag_rules.specs.Plan.{here, at_node, posted};
@@ -46,7 +46,7 @@ impl Group {
         }
         let full = self.is_full(n, m);
         let (answer, message) = self.send_from(alloc, n, m, full)?;
-        self.post(n, m, message)?;
+        self.post(alloc, n, m, message)?;
         Ok(answer)
     }
 
@@ -62,6 +62,7 @@ impl Group {
         ensures answer { IfOk result (λ x. x.0 ≡ (send_part (here self.old n) (replica self.old n) m full).answer) }
         ensures out { IfOk result (λ x. posting_of m x.1 ≡ (send_part (here self.old n) (replica self.old n) m full).out) }
         ensures built { IfOk result (λ x. IfSome x.1 IsBuiltMessage) }
+        ensures room { IfOk result (λ x. IfSome x.1 (λ _. full ≡ false)) }
         ensures after { OnOk result (self.new ≡ with_replica self.old n (send_part (here self.old n) (replica self.old n) m full).after) }
         ensures config { self.new.config ≡ self.old.config }
     {
@@ -72,16 +73,23 @@ impl Group {
     }
 
     /// Puts a message from n, if there is one, into a link.
-    fn post(&mut self, n: u8, to: u8, message: Option<Message>) -> Result<(), NoMemory>
+    fn post(
+        &mut self,
+        alloc: Global,
+        n: u8,
+        to: u8,
+        message: Option<Message>,
+    ) -> Result<(), NoMemory>
         requires from { n < length self.old.config.modes }
         requires to { to < length self.old.config.modes }
         requires built { IfSome message IsBuiltMessage }
+        requires room { IfSome message (λ _. is_full self.old n to ≡ false) }
         ensures after { OnOk result (self.new ≡ posted n (posting_of to message) self.old) }
         ensures config { self.new.config ≡ self.old.config }
     {
         if let Some(message) = message {
             let links = &mut self.links[usize::from(n)];
-            links.push(to, message)?;
+            links.push(alloc, to, &message)?;
         }
         Ok(())
     }
@@ -89,6 +97,7 @@ impl Group {
     /// `deliver` and `repeat`: the message of a number from n to m arrives; where it is repeated it stays in its place.
     pub(super) fn deliver(
         &mut self,
+        alloc: Global,
         n: u8,
         m: u8,
         number: u16,
@@ -102,7 +111,7 @@ impl Group {
         ensures refused { IfOk result (λ a. (why : Refusal) → a ≡ Answer.No why → leaves_message why ≡ true → self.new ≡ self.old) }
         ensures config { OnOk result (self.new.config ≡ self.old.config) }
     {
-        let answer = self.deliver_message(n, m, number, repeats)?;
+        let answer = self.deliver_message(alloc, n, m, number, repeats)?;
         Ok(answer)
     }
 
@@ -110,6 +119,7 @@ impl Group {
     #[tactic(auto, unfolding(ag_rules::specs::DeliverEvent::plan_of_deliver))]
     fn deliver_message(
         &mut self,
+        alloc: Global,
         n: u8,
         m: u8,
         number: u16,
@@ -127,19 +137,18 @@ impl Group {
             return Ok(Answer::No(Refusal::Nothing));
         }
         let full = self.is_full(m, n);
-        let Some((answer, reply)) = self.arrives(n, m, number, full)? else {
+        let Some((answer, reply)) = self.arrives(alloc, n, m, number, full)? else {
             return Ok(Answer::No(Refusal::NoMessage { node: n, to: m }));
         };
-        if !repeats && !leaves(&answer) {
-            self.take(n, m, number);
-        }
-        self.post(m, n, reply)?;
+        self.take_unless(repeats || leaves(&answer), n, m, number);
+        self.post(alloc, m, n, reply)?;
         Ok(answer)
     }
 
     /// What the message of a number from n does at m, if there is one.
     fn arrives(
         &mut self,
+        alloc: Global,
         n: u8,
         m: u8,
         number: u16,
@@ -147,17 +156,36 @@ impl Group {
     ) -> Result<Option<(Answer, Option<Message>)>, NoMemory>
         requires from { n < length self.old.config.modes }
         requires to { m < length self.old.config.modes }
+        requires number { 1 ≤ number }
         ensures part { IfOk result (IsArrival self.old self.new n m number full) }
         ensures built { IfOk result (λ found. IfSome found (λ x. IfSome x.1 IsBuiltMessage)) }
+        ensures room { IfOk result (λ found. IfSome found (λ x. IfSome x.1 (λ _. full ≡ false))) }
+        ensures links { OnOk result (self.new.links ≡ self.old.links) }
         ensures config { self.new.config ≡ self.old.config }
     {
         let site = self.site(m);
-        let Some(message) = self.links[usize::from(n)].message(m, number) else {
+        let links = &self.links[usize::from(n)];
+        let Some(message) = links.message(alloc, m, number)? else {
             return Ok(None);
         };
         let node = &mut self.nodes[usize::from(m)];
-        let told = arrive(node, &site, n, full, message)?;
+        let told = arrive(node, &site, n, full, &message)?;
         Ok(Some(told))
+    }
+
+    /// Takes the message of a number out of the link from n to m, unless it stays. The link back is as before.
+    fn take_unless(&mut self, stays: bool, n: u8, m: u8, number: u16)
+        requires from { n < length self.old.config.modes }
+        requires to { m < length self.old.config.modes }
+        requires two { (n == m) ≡ false }
+        requires number { 1 ≤ number }
+        ensures after { self.new ≡ (if stays then self.old else taken self.old n m number) }
+        ensures back { is_full self.new m n ≡ is_full self.old m n }
+        ensures config { self.new.config ≡ self.old.config }
+    {
+        if !stays {
+            self.take(n, m, number);
+        }
     }
 
     /// Takes the message of a number out of the link from n to m.
@@ -196,9 +224,10 @@ impl Group {
     fn has_message(&self, n: u8, m: u8, number: u16) -> bool
         requires from { n < length self.now.config.modes }
         requires to { m < length self.now.config.modes }
+        requires number { 1 ≤ number }
         ensures { result ≡ is_some (slice_get (link self.now n m) (number - 1)) }
     {
-        self.links[usize::from(n)].message(m, number).is_some()
+        self.links[usize::from(n)].has(m, number)
     }
 }
 

@@ -1,5 +1,7 @@
 //! The events of one node.
 ghost use Rattle.std.specs.Prelude.{◌≡◌, ◌<◌, ◌≤◌, IfOk, OnOk, length};
+ghost use Rattle.std.specs.List.{AllByRecursion};
+ghost use Rattle.ag_built.specs.Built.{IsPair};
 ghost use Rattle.ag_rules.specs.Group.{replica};
 ghost use Rattle.ag_rules.specs.Plan.{here, at_node};
 ghost use Rattle.ag_rules.specs.SetEvent.{set_part};
@@ -23,7 +25,9 @@ impl Group {
     #[tactic(auto, unfolding(ag_rules::specs::SetEvent::set_part))]
     pub(super) fn set(&mut self, alloc: Global, n: u8, pairs: &PairList) -> Result<Answer, NoMemory>
         requires node { n < length self.old.config.modes }
+        requires some { 1 ≤ length pairs.now }
         requires few { length pairs.now ≤ 8 }
+        requires values { AllByRecursion IsPair pairs.now }
         ensures answer { IfOk result (λ a. a ≡ (at_node self.old n (set_part (here self.old n) (replica self.old n) pairs.now)).answer) }
         ensures after { OnOk result (self.new ≡ (at_node self.old n (set_part (here self.old n) (replica self.old n) pairs.now)).after) }
         ensures config { OnOk result (self.new.config ≡ self.old.config) }

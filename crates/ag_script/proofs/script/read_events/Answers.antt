@@ -11,6 +11,7 @@ returns c =
       script = r.script;
       in_range = range.0;
       built = range.1;
+      values = range.2;
       bad_line = r.bad_line;
       events = r.events;
       tells_script = λ events h. tells_script c.args.c.now c.args.text.now c.args.first_line events c.read_lines.result told h;

@@ -3,4 +3,4 @@ use Rattle.ag_group.proofs.Refused.{deliver_left}
 use Rattle.ag_group.proofs.group.Group.deliver.Goals as goal
 
 pub returns-clause-refused : goal.returns-clause-refused
-returns-clause-refused c why is t = c.in_ok-answer.ensures.after ∙ deliver_left c.args.self.now c.args.n c.args.m c.args.number c.args.repeats c.in_ok-answer.ensures.built why (sym c.in_ok-answer.ensures.answer ∙ is) t
+returns-clause-refused c why is t = c.in_ok-answer.ensures.after ∙ deliver_left c.args.self.now c.args.n c.args.m c.args.number c.args.repeats (λ message two is. (c.in_ok-answer.ensures.built message two is).0) why (sym c.in_ok-answer.ensures.answer ∙ is) t
