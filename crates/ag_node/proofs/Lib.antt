@@ -8,6 +8,8 @@ pub mod RoomPairs
 pub mod LogEnds
 pub mod LogStarts
 pub mod LogCopies
+pub mod Fitting
+pub mod SetFits
 pub mod LogMore
 pub mod NodeSteps
 pub mod Rising

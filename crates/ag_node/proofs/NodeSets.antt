@@ -1,7 +1,7 @@
 -- A primary in `set`, from its parts.
-use Rattle.std.proofs.Common.{◌≡◌, ℕ, ◌+◌, ◌-◌, ◌<◌, ◌≤◌, List, [], ◌∷◌, ◌++◌, length, Bool, true, false, refl, sym, ap, ◌∙◌, subst, arith, append_assoc, le-ltb, lt-ltb}
+use Rattle.std.proofs.Common.{◌≡◌, ℕ, ◌+◌, ◌<◌, ◌≤◌, List, [], ◌∷◌, ◌++◌, length, Bool, true, refl, sym, ap, ◌∙◌, subst, arith, append_assoc, le-ltb, lt-ltb}
 use Rattle.std.specs.Prelude.{Option, Some, None}
-use Rattle.std.specs.List.{All, sum_by}
+use Rattle.std.specs.List.{All}
 use Rattle.std.proofs.lemmas.List.{length-map}
 use Rattle.std.proofs.lemmas.List.Sums.{sum_by-append}
 use Rattle.ag_model.specs.declared.event.Pair.{Pair}
@@ -12,14 +12,16 @@ use Rattle.ag_model.specs.declared.answer.Answer.TheVariants.{No, Lsn}
 use Rattle.ag_model.specs.declared.answer.Refusal.{Refusal}
 use Rattle.ag_model.specs.declared.answer.Refusal.TheVariants.{BufferFull}
 use Rattle.ag_model.specs.Sizes.{record_size, records_size, buffer_free}
-use Rattle.ag_rules.specs.Replica.{Replica, Peer, full_log, full_end, Stripe}
+use Rattle.ag_rules.specs.Replica.{Replica, Peer, full_end, Stripe}
 use Rattle.ag_rules.specs.Plan.{Part, Here, refused, unless, at_once}
+use Rattle.ag_record.specs.Spelling.{HaveSpelling}
 use Rattle.ag_rules.specs.Checks.{buffer_is_full}
 use Rattle.ag_rules.specs.SetEvent.{pairs_pass, sets, records_of_set, with_set}
 use Rattle.ag_node.specs.View.{node_of, page_of_flag}
 use Rattle.ag_node.specs.Room.{IsSetLog, first_full, used_after, unless_some}
 use Rattle.ag_node.specs.Nodes.{IsNode, leading_of}
 use Rattle.ag_node.proofs.Quiet.{access_is_free}
+use Rattle.ag_node.proofs.Fitting.{fit_append}
 use Rattle.ag_node.proofs.RoomLog.{set_log_grows}
 use Rattle.ag_node.proofs.RoomPairs.{pairs_pass_by_room}
 
@@ -68,8 +70,8 @@ set_done n r m part full new need free lsn is by e a b le l same =
 
 pub node_after_set : (leads : Bool) (log : Log) (ss : List Stripe) (pages : ℕ) (buffer buffer' new : List Record) (bytes bytes' txn txn' : ℕ) (used used' : List ℕ) (pairs : List Pair)
     → IsNode leads log ss pages buffer bytes txn used → buffer' ≡ buffer ++ new → new ≡ records_of_set pages txn' pairs → txn' ≡ txn + 1 → bytes' ≡ bytes + records_size new
-    → used' ≡ used_after pages pairs used → All (λ b. b ≤ 8144) used' → IsNode leads log ss pages buffer' bytes' txn' used'
-node_after_set leads log ss pages buffer buffer' new bytes bytes' txn txn' used used' pairs h b is t c u small =
+    → used' ≡ used_after pages pairs used → All (λ b. b ≤ 8144) used' → bytes' ≤ 15488 → HaveSpelling new → IsNode leads log ss pages buffer' bytes' txn' used'
+node_after_set leads log ss pages buffer buffer' new bytes bytes' txn txn' used used' pairs h b is t c u small most fits =
     let grown : log.records ++ buffer' ≡ (log.records ++ buffer) ++ records_of_set pages (txn + 1) pairs
     = ap (λ (x : List Record). log.records ++ x) (b ∙ ap (λ (x : List Record). buffer ++ x) (is ∙ ap (λ (x : ℕ). records_of_set pages x pairs) t)) ∙ sym (append_assoc log.records buffer (records_of_set pages (txn + 1) pairs)) in
     record {
@@ -78,6 +80,8 @@ node_after_set leads log ss pages buffer buffer' new bytes bytes' txn txn' used 
       sixteen = h.sixteen;
       redone = h.redone;
       counted = c ∙ ap (λ (x : ℕ). x + records_size new) h.counted ∙ sym (sum_by-append record_size buffer new) ∙ ap records_size (sym b);
+      most = most;
+      fits = subst HaveSpelling (sym b) (fit_append buffer new h.fits fits);
       room = λ e. subst (λ (x : ℕ). IsSetLog pages x (log.records ++ buffer') used') (sym t)
           (subst (λ (x : List ℕ). IsSetLog pages (txn + 1) (log.records ++ buffer') x) (sym u)
           (subst (λ (x : List Record). IsSetLog pages (txn + 1) x (used_after pages pairs used)) (sym grown)

@@ -1,18 +1,18 @@
 -- A node after each step, from its parts.
-use Rattle.std.proofs.Common.{◌≡◌, ℕ, zero, suc, ◌+◌, ◌-◌, ◌<◌, ◌≤◌, List, [], ◌∷◌, ◌++◌, length, take, drop, map, get_or, set, Bool, true, false, cond, refl, sym, ap, ◌∙◌, subst, arith, append_assoc, le-ltb, lt-ltb}
-use Rattle.std.specs.Prelude.{Option, Some, None, ◌==◌, if◌then◌else◌, nat_lt}
+use Rattle.std.proofs.Common.{◌≡◌, ℕ, zero, suc, ◌+◌, ◌<◌, ◌≤◌, List, [], ◌∷◌, ◌++◌, length, map, get_or, set, Bool, true, false, refl, sym, ap, ◌∙◌, subst, arith, le-ltb, lt-ltb}
+use Rattle.std.specs.Prelude.{Some, if◌then◌else◌, nat_lt}
 use Rattle.std.specs.List.{All}
 use Rattle.std.proofs.lemmas.List.{length-map, length-append, length-set, get_or-replicate, append-nil}
 use Rattle.ag_model.specs.declared.record.Record.{Record}
 use Rattle.ag_model.specs.declared.record.Log.{Log}
 use Rattle.ag_model.specs.declared.value.Row.{Row}
-use Rattle.ag_model.specs.declared.answer.Answer.{Answer}
 use Rattle.ag_model.specs.declared.answer.Answer.TheVariants.{No}
 use Rattle.ag_model.specs.declared.answer.Refusal.TheVariants.{TooOld}
 use Rattle.ag_model.specs.Sizes.{records_size}
 use Rattle.ag_model.specs.Blocks.{with_block, after_to, next_end}
 use Rattle.ag_model.specs.Rows.{rows, page_of, stripe_of}
 use Rattle.ag_model.specs.Page.{value}
+use Rattle.ag_record.specs.Spelling.{HaveSpelling}
 use Rattle.ag_rules.specs.Replica.{Replica, Peer, Stripe, no_stripe, all_at, least, end, front}
 use Rattle.ag_rules.specs.Plan.{Part, Here, unless, at_once, refused}
 use Rattle.ag_rules.specs.Redo.{due_pages, touched_up_to}
@@ -73,6 +73,8 @@ node_after_stripes leads log ss ss' pages pages' buffer bytes txn used h p sixte
       sixteen = sixteen;
       redone = redone;
       counted = h.counted;
+      most = h.most;
+      fits = h.fits;
       room = h.room;
       small = h.small;
     })
@@ -118,6 +120,8 @@ node_after_harden leads log log' ss ss' pages pages' buffer buffer' bytes txn us
       sixteen = at.0;
       redone = at.1;
       counted = sym (ap records_size b);
+      most = omega arith;
+      fits = subst HaveSpelling (sym b) tt;
       room = λ e. subst (λ (x : ℕ). IsSetLog x txn (log'.records ++ buffer') used) (sym p) (subst (λ (x : List Record). IsSetLog pages txn x used) (sym records) (h.room e));
       small = h.small;
     }
@@ -133,6 +137,8 @@ node_after_block leads log log' ss pages buffer new bytes txn used h follows l =
       sixteen = h.sixteen;
       redone = λ k d i. (omega (arith, (h.redone k d i).0, longer), omega (arith, (h.redone k d i).1, longer));
       counted = h.counted;
+      most = h.most;
+      fits = h.fits;
       room = λ e. absurd (let f : false ≡ true = sym follows ∙ e in cc);
       small = h.small;
     }

@@ -1,5 +1,5 @@
 -- What a primary knows at the opening, one secondary after another.
-use Rattle.std.proofs.Common.{◌≡◌, ℕ, zero, suc, ◌+◌, ◌<◌, List, [], ◌∷◌, ◌++◌, length, take, map, replicate, Bool, true, false, refl, sym, ap, ◌∙◌, subst, arith, append_assoc, add-one}
+use Rattle.std.proofs.Common.{◌≡◌, ℕ, zero, suc, ◌+◌, ◌<◌, List, [], ◌∷◌, ◌++◌, length, take, map, replicate, Bool, true, false, refl, sym, ap, ◌∙◌, arith, append_assoc, add-one}
 use Rattle.std.specs.Prelude.{if◌then◌else◌}
 use Rattle.ag_model.specs.declared.config.Mode.{Mode}
 use Rattle.ag_model.specs.declared.config.Config.{Config}

@@ -1,5 +1,5 @@
 -- The least published LSN, stripe by stripe.
-use Rattle.std.proofs.Common.{◌≡◌, ℕ, zero, suc, ◌+◌, ◌<◌, List, [], ◌∷◌, length, drop, map, get_or, refl, sym, ap, ◌∙◌, arith}
+use Rattle.std.proofs.Common.{◌≡◌, ℕ, zero, suc, ◌<◌, List, [], ◌∷◌, length, drop, map, get_or, refl, arith}
 use Rattle.std.specs.Prelude.{min}
 use Rattle.ag_rules.specs.Replica.{Stripe, least}
 

@@ -5,7 +5,7 @@ use Rattle.ag_model.specs.declared.value.Row.{Row}
 use Rattle.ag_model.specs.declared.value.Row.TheVariants.{Found, Absent}
 use Rattle.ag_model.specs.declared.record.Record.{Record}
 use Rattle.ag_model.specs.declared.record.Record.TheVariants.{Put, Del, Commit, Abort, Trim, Term}
-use Rattle.ag_model.specs.Rows.{KeyChange, change_by, committed_by}
+use Rattle.ag_model.specs.Rows.{KeyChange, committed_by}
 use Rattle.ag_model.specs.Page.{horizon_by}
 
 -- the row of a key after one change

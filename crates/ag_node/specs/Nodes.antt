@@ -4,6 +4,7 @@ use Rattle.ag_model.specs.declared.record.Record.{Record}
 use Rattle.ag_model.specs.declared.record.Log.{Log}
 use Rattle.ag_model.specs.declared.answer.Refusal.{Refusal}
 use Rattle.ag_model.specs.Sizes.{records_size}
+use Rattle.ag_record.specs.Spelling.{HaveSpelling}
 use Rattle.ag_rules.specs.Plan.{Check}
 use Rattle.ag_rules.specs.Replica.{Leading, Peer, Stripe}
 use Rattle.std.specs.List.{All}
@@ -24,6 +25,8 @@ pub record IsNode (leads : Bool) (log : Log) (stripes : List Stripe) (pages : �
   pub sixteen : length stripes ≡ 16
   pub redone : All (λ s. IsWithin (length log.records) s) stripes
   pub counted : bytes ≡ records_size buffer
+  pub most : bytes ≤ 15488
+  pub fits : HaveSpelling buffer
   pub room : leads ≡ true → IsSetLog pages last_txn (log.records ++ buffer) used
   pub small : All (λ bytes. bytes ≤ 8144) used
 

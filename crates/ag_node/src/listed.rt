@@ -1,12 +1,16 @@
 //! The records of a whole transaction, and the pages that its Commit lists.
-ghost use Rattle.std.specs.Prelude.{◌≡◌, ℕ, ◌<◌, ◌≤◌, OnOk, IfOk, length, slice_index};
+ghost use Rattle.std.specs.Prelude.{◌≡◌, ℕ, ◌^◌, ◌<◌, ◌≤◌, OnOk, IfOk, length, slice_index};
+ghost use Rattle.std.specs.List.{AllByRecursion};
+ghost use Rattle.ag_model.specs.declared.record.Record.TheVariants.{Put};
 ghost use Rattle.ag_model.specs.Rows.{page_of};
 ghost use Rattle.ag_model.specs.Txns.{insert_rising};
+ghost use Rattle.ag_record.specs.Spelling.{HaveSpelling};
+ghost use Rattle.ag_built.specs.Built.{IsPair};
 ghost use Rattle.ag_rules.specs.SetEvent.{pages_of_pairs, records_of_set};
 
 use ag_model::event::Pair;
 use ag_model::record::{PageList, Record, RecordList};
-use ag_model::value::NoMemory;
+use ag_model::value::{NoMemory, Value};
 use std::alloc::{AllocError, Global};
 
 /// The page of a key.
@@ -60,6 +64,14 @@ pub(crate) fn pages_of_pairs(
     Ok(PageList::from_vec(listed))
 }
 
+/// The Put of a key.
+fn put(txn: u64, key: u32, value: Value) -> Record
+    ensures is { result ≡ Put txn key value }
+    ensures key { key < 2 ^ 32 }
+{
+    Record::Put { txn, key, value }
+}
+
 /// The records of a transaction of these pairs: a Put for each, and the Commit.
 pub(crate) fn records_of_set(
     alloc: Global,
@@ -69,15 +81,12 @@ pub(crate) fn records_of_set(
 ) -> Result<RecordList, NoMemory>
     requires some { 16 ≤ pages }
     requires few { pages ≤ 2048 }
-    ensures { IfOk result (λ new. new ≡ records_of_set pages txn pairs.now) }
+    ensures is { IfOk result (λ new. new ≡ records_of_set pages txn pairs.now) }
+    ensures fits { IfOk result (λ new. 1 ≤ length pairs.now → AllByRecursion IsPair pairs.now → HaveSpelling new) }
 {
     let mut records = RecordList::new(alloc);
     for pair in pairs {
-        records.push(Record::Put {
-            txn,
-            key: pair.key,
-            value: pair.value,
-        })?;
+        records.push(put(txn, pair.key, pair.value))?;
     }
     let listed = pages_of_pairs(alloc, pages, pairs)?;
     records.push(Record::Commit { txn, pages: listed })?;

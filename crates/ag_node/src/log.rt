@@ -6,6 +6,8 @@ ghost use Rattle.ag_model.specs.Starts.{last_term, start_by};
 ghost use Rattle.ag_model.specs.Sizes.{record_size as size_of_record, records_size as size_of_records, free_sectors as sectors_left};
 ghost use Rattle.std.specs.Option.{option_and_then};
 ghost use Rattle.std.specs.List.{slice_get};
+ghost use Rattle.ag_record.specs.Spelling.{HaveSpelling};
+ghost use Rattle.ag_wire.specs.Spelling.{ArePayload};
 ghost use Rattle.ag_node.specs.LogKept.{starts_after, term_by};
 ghost use Rattle.ag_model.specs.Proper.{RisesFrom};
 
@@ -82,6 +84,7 @@ impl HardenedLog {
     pub(crate) fn block_from(&self, first: u64) -> Option<u64>
         ensures end { result ≡ end_of_block 0 first self.now.ends }
         ensures bounds { IfSome result (λ last. (1 ≤ first) × (first ≤ last) × (last ≤ length self.now.records)) }
+        ensures small { IfSome result (λ last. size_of_records (after_to (first - 1) last self.now.records) ≤ 15488) }
     {
         block_end(self.ends.as_slice(), first)
     }
@@ -105,7 +108,8 @@ impl HardenedLog {
         requires from { 1 ≤ first }
         requires order { first ≤ last + 1 }
         requires within { last ≤ length self.now.records }
-        ensures { IfOk result (λ copy. copy ≡ after_to (first - 1) last self.now.records) }
+        ensures is { IfOk result (λ copy. copy ≡ after_to (first - 1) last self.now.records) }
+        ensures fits { IfOk result HaveSpelling }
     {
         let records = self.records.as_slice();
         let copy = records[(first - 1) as usize..last as usize].to_vec(alloc)?;
@@ -121,7 +125,7 @@ impl HardenedLog {
 
     /// Moves a block to the end. Where memory is refused, nothing is moved.
     pub(crate) fn append(&mut self, block: &mut RecordList) -> Result<(), NoMemory>
-        requires { 0 < length block.old }
+        requires { ArePayload block.old }
         ensures ok { OnOk result (self.new ≡ with_block self.old block.old) }
         ensures moved { OnOk result (block.new ≡ []) }
         ensures err { OnErr result (self.new ≡ self.old) }
@@ -324,13 +328,13 @@ mod tests {
     use std::test::Fail;
 
     fn block(alloc: Global) -> Result<RecordList, NoMemory>
-        ensures { IfOk result (λ block. 0 < length block) }
+        ensures { IfOk result ArePayload }
     {
         let value = Value {
             len: 64,
             bytes: [7; 64],
         };
-        let pages = ListOf::from_vec(Vec::from_slice(alloc, &[0, 3])?);
+        let pages = ListOf::from_vec(Vec::from_slice(alloc, &[16, 19])?);
         let mut block = ListOf::new(alloc);
         block.push(Record::Put {
             txn: 1,

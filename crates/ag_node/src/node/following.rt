@@ -11,6 +11,7 @@ ghost use Rattle.ag_rules.specs.ReadEvent.{read_part, reads_at, row_answer};
 ghost use Rattle.ag_rules.specs.Messages.{ack_message};
 ghost use Rattle.ag_rules.specs.BlockMessage.{block_part};
 ghost use Rattle.ag_built.specs.Built.{IsBuiltMessage};
+ghost use Rattle.ag_wire.specs.Spelling.{IsBlock, ArePayload};
 ghost use Rattle.ag_node.specs.Out.{posting_of};
 ghost use Rattle.ag_node.specs.Sites.{here_at};
 ghost use Rattle.ag_node.specs.Nodes.{IsRefusedBy};
@@ -204,7 +205,7 @@ impl Node {
         term: u64,
         block: &Block,
     ) -> Result<(Answer, Option<Message>), NoMemory>
-        requires some { 0 < length block.now.records }
+        requires fits { IsBlock block.now }
         ensures answer { IfOk result (λ x. x.0 ≡ (block_part (here_at site.now) from self.old full term block.now).answer) }
         ensures out { IfOk result (λ x. posting_of from x.1 ≡ (block_part (here_at site.now) from self.old full term block.now).out) }
         ensures built { IfOk result (λ x. IfSome x.1 IsBuiltMessage) }
@@ -250,7 +251,7 @@ impl Node {
 
     /// Hardens a block that came.
     fn append_block(&mut self, new: &RecordList) -> Result<(), NoMemory>
-        requires some { 0 < length new.now }
+        requires fits { ArePayload new.now }
         requires follows { self.old.leads ≡ false }
         ensures after { OnOk result (self.new ≡ record self.old { kept = record self.old.kept { log = with_block self.old.kept.log new.now } }) }
         ensures pages { length self.new.pages ≡ length self.old.pages }

@@ -1,13 +1,16 @@
 //! What the events of a primary do.
-ghost use Rattle.std.specs.Prelude.{◌≡◌, ◌+◌, ◌≤◌, ◌==◌, ◌∷◌, [], IfOk, OnOk, IfSome, length, false, true, MatchOption, nat_eq};
-ghost use Rattle.ag_rules.specs.Replica.{end, full_end, peer, with_peer};
+ghost use Rattle.std.specs.Prelude.{◌≡◌, ◌+◌, ◌-◌, ◌≤◌, ◌==◌, ◌∷◌, [], IfOk, OnOk, IfSome, length, false, true, MatchOption, nat_eq};
+ghost use Rattle.std.specs.List.{AllByRecursion};
+ghost use Rattle.ag_model.specs.Sizes.{records_size as size_of_records};
+ghost use Rattle.ag_model.specs.Blocks.{after_to};
+ghost use Rattle.ag_rules.specs.Replica.{end, full_end, peer, records, with_peer};
 ghost use Rattle.ag_rules.specs.Promotion.{log_check, is_spent};
 ghost use Rattle.ag_rules.specs.SetEvent.{set_part, sets, pairs_pass, records_of_set};
 ghost use Rattle.ag_rules.specs.Redo.{due_pages};
 ghost use Rattle.ag_rules.specs.HardenEvent.{harden_part, hardens, hardened_one};
 ghost use Rattle.ag_rules.specs.SendEvent.{send_part, block_to_send, block_message, with_sent};
 ghost use Rattle.ag_rules.specs.AckMessage.{ack_message_part, known_peer};
-ghost use Rattle.ag_built.specs.Built.{IsBuiltMessage};
+ghost use Rattle.ag_built.specs.Built.{IsBuiltMessage, IsPair};
 ghost use Rattle.ag_node.specs.Out.{posting_of};
 ghost use Rattle.ag_node.specs.Sites.{here_at};
 ghost use Rattle.ag_node.specs.Nodes.{IsRefusedBy};
@@ -33,7 +36,9 @@ impl Node {
     #[tactic(auto, unfolding(ag_rules::specs::SetEvent::set_part))]
     pub fn set(&mut self, alloc: Global, site: &Site, pairs: &PairList) -> Result<Answer, NoMemory>
         requires pages { site.now.pages ≡ length self.old.pages }
+        requires some { 1 ≤ length pairs.now }
         requires few { length pairs.now ≤ 8 }
+        requires values { AllByRecursion IsPair pairs.now }
         ensures answer { IfOk result (λ a. a ≡ (set_part (here_at site.now) self.old pairs.now).answer) }
         ensures after { OnOk result (self.new ≡ (set_part (here_at site.now) self.old pairs.now).after) }
         ensures pages { length self.new.pages ≡ length self.old.pages }
@@ -68,7 +73,9 @@ impl Node {
     fn set_pairs(&mut self, alloc: Global, site: &Site, pairs: &[Pair]) -> Result<Answer, NoMemory>
         requires pages { site.now.pages ≡ length self.old.pages }
         requires leads { self.old.leads ≡ true }
+        requires some { 1 ≤ length pairs.now }
         requires few { length pairs.now ≤ 8 }
+        requires values { AllByRecursion IsPair pairs.now }
         ensures answer { IfOk result (λ a. a ≡ (pairs_pass (here_at site.now) self.old (self.old.leading.last_txn + 1) [] pairs.now (sets self.old (records_of_set site.now.pages (self.old.leading.last_txn + 1) pairs.now))).answer) }
         ensures after { OnOk result (self.new ≡ (pairs_pass (here_at site.now) self.old (self.old.leading.last_txn + 1) [] pairs.now (sets self.old (records_of_set site.now.pages (self.old.leading.last_txn + 1) pairs.now))).after) }
         ensures pages { length self.new.pages ≡ length self.old.pages }
@@ -195,6 +202,7 @@ impl Node {
         requires { first ≡ (peer self.now m).next }
         ensures end { result ≡ block_to_send self.now m }
         ensures bounds { IfSome result (λ last. (1 ≤ first) × (first ≤ last) × (last ≤ end self.now)) }
+        ensures small { IfSome result (λ last. size_of_records (after_to (first - 1) last (records self.now)) ≤ 15488) }
     {
         self.log.block_from(first)
     }
@@ -210,6 +218,7 @@ impl Node {
         requires connected { (peer self.old m).connected ≡ true }
         requires first { first ≡ (peer self.old m).next }
         requires bounds { (1 ≤ first) × (first ≤ last) × (last ≤ end self.old) }
+        requires small { size_of_records (after_to (first - 1) last (records self.old)) ≤ 15488 }
         ensures message { IfOk result (λ message. message ≡ block_message self.old (peer self.old m).next last) }
         ensures built { IfOk result IsBuiltMessage }
         ensures after { OnOk result (self.new ≡ with_sent self.old m last) }

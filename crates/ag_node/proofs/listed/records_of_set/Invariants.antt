@@ -1,6 +1,9 @@
-use Rattle.std.proofs.Common.{◌≡◌, take, map}
+use Rattle.std.proofs.Common.{◌≡◌, ◌<◌, ◌^◌, take, map}
+use Rattle.std.specs.List.{AllByRecursion}
+use Rattle.ag_model.specs.declared.event.Pair.{Pair}
 use Rattle.ag_model.specs.declared.record.Record.TheVariants.{Put}
 use Rattle.ag_node.proofs.listed.records_of_set.Given as goal
 
 abbrev pub invariant-loop-pair : goal.invariant-loop-pair
-invariant-loop-pair l = l.records ≡ map (λ pair. Put l.txn pair.key pair.value) (take l.pair-index l.pairs)
+invariant-loop-pair l =
+    (l.records ≡ map (λ pair. Put l.txn pair.key pair.value) (take l.pair-index l.pairs)) × AllByRecursion (λ (pair : Pair). pair.key < 2 ^ 32) (take l.pair-index l.pairs)

@@ -1,4 +1,4 @@
-use Rattle.std.proofs.Common.{◌≡◌, ◌==◌, ◌&&◌, take, get_or, ap, sym, ◌∙◌, ◌+◌, arith}
+use Rattle.std.proofs.Common.{◌==◌, ◌&&◌, take, get_or, ap, sym, ◌∙◌, ◌+◌, arith}
 use Rattle.ag_node.specs.Marked.{set_where, is_of}
 use Rattle.ag_node.proofs.MarksSteps.{set_where_any, any_of, none_of}
 use Rattle.ag_node.proofs.marks.mark_listed.Goals as goal

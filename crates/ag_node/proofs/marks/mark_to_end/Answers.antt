@@ -1,4 +1,4 @@
-use Rattle.std.proofs.Common.{◌≡◌, ◌-◌, Some, List, length, drop, take, ap, ◌∙◌, arith}
+use Rattle.std.proofs.Common.{◌-◌, Some, List, length, drop, ap, ◌∙◌, arith}
 use Rattle.std.proofs.lemmas.List.{take_all, length-drop}
 use Rattle.ag_model.specs.declared.record.Record.{Record}
 use Rattle.ag_node.specs.Marked.{marked_of}

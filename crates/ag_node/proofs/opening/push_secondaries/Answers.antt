@@ -1,7 +1,3 @@
-use Rattle.std.proofs.Common.{◌≡◌, ◌+◌, ◌∷◌, ◌++◌, [], List, take, map, sym, ap, ◌∙◌, append_assoc}
-use Rattle.ag_model.specs.declared.config.Mode.{Mode}
-use Rattle.ag_rules.specs.Replica.{Peer}
-use Rattle.ag_node.specs.Nodes.{at_opening}
 use Rattle.ag_node.proofs.OpeningSteps.{one_more}
 use Rattle.ag_node.proofs.opening.push_secondaries.Goals as goal
 

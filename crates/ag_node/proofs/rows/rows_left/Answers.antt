@@ -1,7 +1,5 @@
-use Rattle.std.proofs.Common.{◌≡◌, ap, sym, ◌∙◌, take}
-use Rattle.std.specs.Prelude.{Option}
-use Rattle.ag_model.specs.declared.value.Row.{Row}
-use Rattle.ag_node.specs.Folded.{change_of, left_after, left_by}
+use Rattle.std.proofs.Common.{sym, ◌∙◌}
+use Rattle.ag_node.specs.Folded.{left_after}
 use Rattle.ag_node.proofs.Folds.{left_more}
 use Rattle.ag_node.proofs.rows.rows_left.Goals as goal
 

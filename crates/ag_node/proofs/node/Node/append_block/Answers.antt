@@ -1,7 +1,5 @@
-use Rattle.std.proofs.Common.{◌≡◌, refl, sym, ap, ◌∙◌}
-use Rattle.ag_model.specs.declared.record.Log.{Log}
+use Rattle.std.proofs.Common.{refl, ◌∙◌}
 use Rattle.ag_model.specs.Blocks.{with_block}
-use Rattle.ag_rules.specs.Replica.{Replica}
 use Rattle.ag_node.specs.View.{node_of}
 use Rattle.ag_node.specs.Nodes.{leading_of}
 use Rattle.ag_node.proofs.NodeSteps.{node_same}

@@ -1,10 +1,16 @@
-use Rattle.std.proofs.Common.{◌≡◌, ◌+◌, length, refl, sym, ap, ◌∙◌, arith}
+use Rattle.std.proofs.Common.{◌≡◌, ◌==◌, length, ap, ◌∙◌, arith}
 use Rattle.std.proofs.lemmas.List.{with_items_is, length-append}
 use Rattle.ag_model.specs.declared.record.Log.{Log}
-use Rattle.ag_rules.specs.Replica.{all_at}
+use Rattle.ag_rules.specs.Replica.{Replica, all_at}
 use Rattle.ag_node.specs.Marked.{marked}
+use Rattle.ag_node.proofs.Fitting.{payload_buffer}
 use Rattle.ag_node.proofs.NodeSteps.{node_same, node_hardened}
 use Rattle.ag_node.proofs.node.Node.harden_buffer.Goals as goal
+
+pub append-requires : goal.append-requires
+append-requires c =
+    let n = c.self.inside in
+    payload_buffer n.buffer n.buffered c.self.invariant.fits (ap (λ (x : Replica). length x.leading.buffer == 0) c.self.view_is ∙ c.requires.some) c.self.invariant.counted c.self.invariant.most
 
 pub invariant_of-self : goal.invariant_of-self
 invariant_of-self c =

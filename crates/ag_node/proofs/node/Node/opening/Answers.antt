@@ -1,4 +1,4 @@
-use Rattle.std.proofs.Common.{◌≡◌, ℕ, List, [], refl, sym, ap, ◌∙◌}
+use Rattle.std.proofs.Common.{List, [], ap, ◌∙◌}
 use Rattle.std.specs.Prelude.{if◌then◌else◌}
 use Rattle.ag_model.specs.declared.config.Mode.{Mode}
 use Rattle.ag_rules.specs.Group.{synced_at_opening, opening_peers}

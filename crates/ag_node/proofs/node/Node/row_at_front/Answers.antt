@@ -1,4 +1,4 @@
-use Rattle.std.proofs.Common.{◌≡◌, ◌+◌, ◌%◌, length, get_or, sym, ap, ◌∙◌, arith}
+use Rattle.std.proofs.Common.{◌+◌, ◌%◌, length, get_or, ap, ◌∙◌, arith}
 use Rattle.ag_model.specs.Page.{value}
 use Rattle.ag_model.specs.Rows.{rows}
 use Rattle.ag_rules.specs.Replica.{no_stripe}

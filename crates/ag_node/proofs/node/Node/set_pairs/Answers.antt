@@ -1,15 +1,15 @@
-use Rattle.std.proofs.Common.{rules, ◌<◌, ◌≤◌, ◌≡◌, ◌+◌, ◌-◌, ◌++◌, length, refl, sym, ap, ◌∙◌, subst, arith, [], List, ℕ}
-use Rattle.std.specs.Prelude.{Option, None}
+use Rattle.std.proofs.Common.{rules, ◌≤◌, ◌≡◌, ◌+◌, ◌-◌, ◌++◌, length, sym, ap, ◌∙◌, subst, arith, [], List, ℕ}
+use Rattle.std.specs.Prelude.{None}
 use Rattle.std.specs.List.{All}
 use Rattle.std.proofs.lemmas.List.{with_items_is}
 use Rattle.std.proofs.lemmas.Grind.{common_steps}
 use Rattle.ag_model.specs.declared.record.Record.{Record}
 use Rattle.ag_model.specs.Sizes.{records_size}
 use Rattle.ag_rules.specs.Replica.{full_end}
-use Rattle.ag_rules.specs.SetEvent.{records_of_set, sets}
+use Rattle.ag_rules.specs.SetEvent.{records_of_set}
 use Rattle.ag_node.specs.View.{node_of}
 use Rattle.ag_node.specs.Sites.{here_at}
-use Rattle.ag_node.specs.Room.{first_full, used_after, unless_some}
+use Rattle.ag_node.specs.Room.{first_full, used_after}
 use Rattle.ag_node.specs.Nodes.{leading_of}
 use Rattle.ag_node.proofs.NodeSteps.{pages_are}
 use Rattle.ag_node.proofs.NodeSets.{set_by_room, set_refused, set_full, set_done, node_after_set}
@@ -35,7 +35,7 @@ returns-then-free-need-clause-answer c =
     let none : c.first_full.result ≡ None = c.in_default.is in
     let fits : first_full c.args.site.now.pages n.used.items [] c.args.pairs.now ≡ None = sym (c.first_full.ensures ∙ ap (λ (x : List ℕ). first_full c.args.site.now.pages x [] c.args.pairs.now) c.as_slice.ensures.value) ∙ none in
     let txn : c.in_ok-txn.txn ≡ n.last_txn + 1 = first_of (search rules, grind (arith, common_steps)) in
-    let new : c.in_ok-new.new ≡ records_of_set c.args.site.now.pages (n.last_txn + 1) c.args.pairs.now = c.in_ok-new.ensures ∙ ap (λ (x : ℕ). records_of_set c.args.site.now.pages x c.args.pairs.now) txn in
+    let new : c.in_ok-new.new ≡ records_of_set c.args.site.now.pages (n.last_txn + 1) c.args.pairs.now = c.in_ok-new.ensures.is ∙ ap (λ (x : ℕ). records_of_set c.args.site.now.pages x c.args.pairs.now) txn in
     let need : c.in_ok-need.need ≡ records_size c.in_ok-new.new = c.in_ok-need.ensures ∙ ap records_size c.as_slice-2.ensures in
     let free : c.saturating_sub-free.result ≡ 15488 - records_size n.buffer = first_of (search rules, omega (arith, c.saturating_sub-free.ensures, c.self.invariant.counted)) in
     let by = set_by_room n.leads n.log n.stripes n.dirty.items n.buffer n.buffered n.last_txn n.synced n.peers.items n.used.items c.args.self.now (here_at c.args.site.now) c.args.pairs.now c.self.view_is c.requires.pages c.self.invariant c.requires.leads in
@@ -47,7 +47,7 @@ returns-then-free-need-clause-after c =
     let none : c.first_full.result ≡ None = c.in_default.is in
     let fits : first_full c.args.site.now.pages n.used.items [] c.args.pairs.now ≡ None = sym (c.first_full.ensures ∙ ap (λ (x : List ℕ). first_full c.args.site.now.pages x [] c.args.pairs.now) c.as_slice.ensures.value) ∙ none in
     let txn : c.in_ok-txn.txn ≡ n.last_txn + 1 = first_of (search rules, grind (arith, common_steps)) in
-    let new : c.in_ok-new.new ≡ records_of_set c.args.site.now.pages (n.last_txn + 1) c.args.pairs.now = c.in_ok-new.ensures ∙ ap (λ (x : ℕ). records_of_set c.args.site.now.pages x c.args.pairs.now) txn in
+    let new : c.in_ok-new.new ≡ records_of_set c.args.site.now.pages (n.last_txn + 1) c.args.pairs.now = c.in_ok-new.ensures.is ∙ ap (λ (x : ℕ). records_of_set c.args.site.now.pages x c.args.pairs.now) txn in
     let need : c.in_ok-need.need ≡ records_size c.in_ok-new.new = c.in_ok-need.ensures ∙ ap records_size c.as_slice-2.ensures in
     let free : c.saturating_sub-free.result ≡ 15488 - records_size n.buffer = first_of (search rules, omega (arith, c.saturating_sub-free.ensures, c.self.invariant.counted)) in
     let by = set_by_room n.leads n.log n.stripes n.dirty.items n.buffer n.buffered n.last_txn n.synced n.peers.items n.used.items c.args.self.now (here_at c.args.site.now) c.args.pairs.now c.self.view_is c.requires.pages c.self.invariant c.requires.leads in
@@ -59,7 +59,7 @@ invariant_of-self-2 c =
     let none : c.first_full.result ≡ None = c.in_default.is in
     let fits : first_full c.args.site.now.pages n.used.items [] c.args.pairs.now ≡ None = sym (c.first_full.ensures ∙ ap (λ (x : List ℕ). first_full c.args.site.now.pages x [] c.args.pairs.now) c.as_slice.ensures.value) ∙ none in
     let txn : c.in_ok-txn.txn ≡ n.last_txn + 1 = first_of (search rules, grind (arith, common_steps)) in
-    let new : c.in_ok-new.new ≡ records_of_set c.args.site.now.pages (n.last_txn + 1) c.args.pairs.now = c.in_ok-new.ensures ∙ ap (λ (x : ℕ). records_of_set c.args.site.now.pages x c.args.pairs.now) txn in
+    let new : c.in_ok-new.new ≡ records_of_set c.args.site.now.pages (n.last_txn + 1) c.args.pairs.now = c.in_ok-new.ensures.is ∙ ap (λ (x : ℕ). records_of_set c.args.site.now.pages x c.args.pairs.now) txn in
     let need : c.in_ok-need.need ≡ records_size c.in_ok-new.new = c.in_ok-need.ensures ∙ ap records_size c.as_slice-2.ensures in
     let free : c.saturating_sub-free.result ≡ 15488 - records_size n.buffer = first_of (search rules, omega (arith, c.saturating_sub-free.ensures, c.self.invariant.counted)) in
     let by = set_by_room n.leads n.log n.stripes n.dirty.items n.buffer n.buffered n.last_txn n.synced n.peers.items n.used.items c.args.self.now (here_at c.args.site.now) c.args.pairs.now c.self.view_is c.requires.pages c.self.invariant c.requires.leads in
@@ -68,8 +68,9 @@ invariant_of-self-2 c =
     let few : c.args.site.now.pages ≡ length n.dirty.items = pages_are n.leads n.log n.stripes n.dirty.items n.buffer n.last_txn n.synced n.peers.items c.args.self.now c.args.site.now.pages c.self.view_is c.requires.pages in
     let bytes : c.in_ok-buffered.buffered ≡ n.buffered + c.in_ok-need.need = first_of (search rules, grind (arith, common_steps)) in
     node_after_set n.leads n.log n.stripes (length n.dirty.items) n.buffer c.append.new.self c.in_ok-new.new n.buffered c.in_ok-buffered.buffered n.last_txn c.in_ok-txn.txn n.used.items _ c.args.pairs.now c.self.invariant
-    c.in_ok-append.ensures.ok (c.in_ok-new.ensures ∙ (λ i. records_of_set (few i) c.in_ok-txn.txn c.args.pairs.now)) txn (bytes ∙ ap (λ (x : ℕ). n.buffered + x) need)
+    c.in_ok-append.ensures.ok (c.in_ok-new.ensures.is ∙ (λ i. records_of_set (few i) c.in_ok-txn.txn c.args.pairs.now)) txn (bytes ∙ ap (λ (x : ℕ). n.buffered + x) need)
     (items ∙ c.spend.ensures.after ∙ (λ i. used_after (few i) c.args.pairs.now (c.as_mut_slice.ensures.value i))) (subst (λ (x : List ℕ). All (λ b. b ≤ 8144) x) (sym items) c.spend.ensures.small)
+    (omega (arith, bytes, c.if-free-need.false, c.saturating_sub-free.ensures, c.self.invariant.most)) (c.in_ok-new.ensures.fits c.requires.some c.requires.values)
 
 pub returns-clause-answer : goal.returns-clause-answer
 returns-clause-answer c =
@@ -77,7 +78,7 @@ returns-clause-answer c =
     let none : c.first_full.result ≡ None = c.in_default.is in
     let fits : first_full c.args.site.now.pages n.used.items [] c.args.pairs.now ≡ None = sym (c.first_full.ensures ∙ ap (λ (x : List ℕ). first_full c.args.site.now.pages x [] c.args.pairs.now) c.as_slice.ensures.value) ∙ none in
     let txn : c.in_ok-txn.txn ≡ n.last_txn + 1 = first_of (search rules, grind (arith, common_steps)) in
-    let new : c.in_ok-new.new ≡ records_of_set c.args.site.now.pages (n.last_txn + 1) c.args.pairs.now = c.in_ok-new.ensures ∙ ap (λ (x : ℕ). records_of_set c.args.site.now.pages x c.args.pairs.now) txn in
+    let new : c.in_ok-new.new ≡ records_of_set c.args.site.now.pages (n.last_txn + 1) c.args.pairs.now = c.in_ok-new.ensures.is ∙ ap (λ (x : ℕ). records_of_set c.args.site.now.pages x c.args.pairs.now) txn in
     let need : c.in_ok-need.need ≡ records_size c.in_ok-new.new = c.in_ok-need.ensures ∙ ap records_size c.as_slice-2.ensures in
     let free : c.saturating_sub-free.result ≡ 15488 - records_size n.buffer = first_of (search rules, omega (arith, c.saturating_sub-free.ensures, c.self.invariant.counted)) in
     let by = set_by_room n.leads n.log n.stripes n.dirty.items n.buffer n.buffered n.last_txn n.synced n.peers.items n.used.items c.args.self.now (here_at c.args.site.now) c.args.pairs.now c.self.view_is c.requires.pages c.self.invariant c.requires.leads in
@@ -92,7 +93,7 @@ returns-clause-after c =
     let none : c.first_full.result ≡ None = c.in_default.is in
     let fits : first_full c.args.site.now.pages n.used.items [] c.args.pairs.now ≡ None = sym (c.first_full.ensures ∙ ap (λ (x : List ℕ). first_full c.args.site.now.pages x [] c.args.pairs.now) c.as_slice.ensures.value) ∙ none in
     let txn : c.in_ok-txn.txn ≡ n.last_txn + 1 = first_of (search rules, grind (arith, common_steps)) in
-    let new : c.in_ok-new.new ≡ records_of_set c.args.site.now.pages (n.last_txn + 1) c.args.pairs.now = c.in_ok-new.ensures ∙ ap (λ (x : ℕ). records_of_set c.args.site.now.pages x c.args.pairs.now) txn in
+    let new : c.in_ok-new.new ≡ records_of_set c.args.site.now.pages (n.last_txn + 1) c.args.pairs.now = c.in_ok-new.ensures.is ∙ ap (λ (x : ℕ). records_of_set c.args.site.now.pages x c.args.pairs.now) txn in
     let need : c.in_ok-need.need ≡ records_size c.in_ok-new.new = c.in_ok-need.ensures ∙ ap records_size c.as_slice-2.ensures in
     let free : c.saturating_sub-free.result ≡ 15488 - records_size n.buffer = first_of (search rules, omega (arith, c.saturating_sub-free.ensures, c.self.invariant.counted)) in
     let by = set_by_room n.leads n.log n.stripes n.dirty.items n.buffer n.buffered n.last_txn n.synced n.peers.items n.used.items c.args.self.now (here_at c.args.site.now) c.args.pairs.now c.self.view_is c.requires.pages c.self.invariant c.requires.leads in
