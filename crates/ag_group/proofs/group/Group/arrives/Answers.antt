@@ -1,10 +1,13 @@
-use Rattle.std.proofs.Common.{◌≡◌, ◌<◌, ◌-◌, ℕ, [], List, length, get_or, sym, ap, ◌∙◌, arith}
-use Rattle.std.specs.Prelude.{slice_get}
+use Rattle.std.proofs.Common.{◌≡◌, ◌<◌, ◌-◌, ℕ, [], List, length, get_or, sym, ap, ◌∙◌, subst, arith}
+use Rattle.std.specs.Prelude.{slice_get, Option, IfSome}
 use Rattle.std.proofs.lemmas.List.{get_or_read}
 use Rattle.ag_model.specs.declared.message.Message.{Message}
 use Rattle.ag_rules.specs.Group.{Group, link}
 use Rattle.ag_rules.specs.DeliverEvent.{message_part}
+use Rattle.ag_built.specs.Built.{IsBuiltMessage}
 use Rattle.ag_node.specs.Out.{posting_of}
+use Rattle.ag_node.specs.Sites.{here_at}
+use Rattle.ag_group.proofs.Replies.{room_by_out, message_full}
 use Rattle.ag_group.specs.contracts.group.Group.{the_view}
 use Rattle.ag_group.proofs.Lifts.{stepped, told, sent, message_free}
 use Rattle.ag_group.proofs.group.Group.arrives.Goals as goal
@@ -12,15 +15,16 @@ use Rattle.ag_group.proofs.group.Group.arrives.Goals as goal
 pub returns-clause-part : goal.returns-clause-part
 returns-clause-part c =
     let g : Group = the_view c.self.inside in
-    let message : Message = c.in-Some.message.now in
+    let message : Message = c.in-Some.message in
+    let built : IsBuiltMessage message = subst (λ (o : Option Message). IfSome o IsBuiltMessage) c.in-Some.is c.in_ok-message.ensures.built in
     let within : c.args.m < length c.self.inside.nodes.items = omega (arith, c.self.invariant.each, c.requires.to, ap (λ (g : Group). length g.config.modes) c.self.view_is) in
     let row : c.args.n < length c.self.inside.links.items = omega (arith, c.self.invariant.rows, c.requires.from, ap (λ (g : Group). length g.config.modes) c.self.view_is) in
-    let at_n : c.index.result.now ≡ get_or g.links c.args.n [] = get_or_read g.links c.args.n c.index.result.now row (c.index.ensures ∙ ap (λ (k : ℕ). get_or g.links k c.index.result.now) c.from.ensures) [] in
-    let link_is : get_or c.index.result.now c.args.m [] ≡ link c.args.self.now c.args.n c.args.m = ap (λ (x : List (List Message)). get_or x c.args.m []) at_n ∙ ap (λ (g : Group). link g c.args.n c.args.m) c.self.view_is in
-    let free = message_free c.args.n c.args.full message c.in-Some.ensures.built in (
+    let at_n : c.index-links.result.now ≡ get_or g.links c.args.n [] = get_or_read g.links c.args.n c.index-links.result.now row (c.index-links.ensures ∙ ap (λ (k : ℕ). get_or g.links k c.index-links.result.now) c.from.ensures) [] in
+    let link_is : get_or c.index-links.result.now c.args.m [] ≡ link c.args.self.now c.args.n c.args.m = ap (λ (x : List (List Message)). get_or x c.args.m []) at_n ∙ ap (λ (g : Group). link g c.args.n c.args.m) c.self.view_is in
+    let free = message_free c.args.n c.args.full message built.0 in (
       message,
-      sym (ap (λ (x : List Message). slice_get x (c.args.number - 1)) link_is) ∙ c.in-Some.ensures.found,
-      c.in-Some.ensures.built,
+      sym (ap (λ (x : List Message). slice_get x (c.args.number - 1)) link_is) ∙ sym c.in_ok-message.ensures.found ∙ c.in-Some.is,
+      built,
       record {
         answered = told (λ h r. message_part h c.args.n r c.args.full message) free g c.args.self.now c.args.m c.from-2.result c.site-site.result c.index_mut-node.result.now c.in_ok-told.told.0 within
             c.site-site.ensures.number (c.site-site.ensures.pages ∙ ap (λ (g : Group). g.config.pages) (sym c.self.view_is)) (c.site-site.ensures.store ∙ ap (λ (g : Group). g.register) (sym c.self.view_is)) c.from-2.ensures c.index_mut-node.ensures.value c.in_ok-told.ensures.answer c.self.view_is;
@@ -30,3 +34,12 @@ returns-clause-part c =
             c.site-site.ensures.number (c.site-site.ensures.pages ∙ ap (λ (g : Group). g.config.pages) (sym c.self.view_is)) (c.site-site.ensures.store ∙ ap (λ (g : Group). g.register) (sym c.self.view_is)) c.from-2.ensures c.index_mut-node.ensures.value c.in_ok-told.ensures.after c.self.view_is;
       },
     )
+
+pub returns-clause-room : goal.returns-clause-room
+returns-clause-room c =
+    let message : Message = c.in-Some.message in
+    let built : IsBuiltMessage message = subst (λ (o : Option Message). IfSome o IsBuiltMessage) c.in-Some.is c.in_ok-message.ensures.built in
+    let h = here_at c.site-site.result in
+    let r = c.index_mut-node.result.now in
+    room_by_out c.args.n c.in_ok-told.told.1 c.args.full (message_part h c.args.n r c.args.full message).out c.in_ok-told.ensures.out
+    (λ e. ap (λ b. (message_part h c.args.n r b message).out) e ∙ message_full h c.args.n r message built.0)

@@ -1,5 +1,5 @@
 use Rattle.ag_group.proofs.Replies.{same_room}
 use Rattle.ag_group.proofs.group.Group.deliver_message.Goals as goal
 
-pub post-requires-room : goal.post-requires-room
-post-requires-room c = ?
+pub post-requires-clause-room : goal.post-requires-clause-room
+post-requires-clause-room c = ?

@@ -1,5 +1,8 @@
+use Rattle.std.proofs.Common.{ap, ◌∙◌}
+use Rattle.ag_rules.specs.Group.{Group, is_full}
 use Rattle.ag_group.proofs.Replies.{taken_back}
 use Rattle.ag_group.proofs.group.Group.take_unless.Goals as goal
 
-pub returns-then-stays-clause-back : goal.returns-then-stays-clause-back
-returns-then-stays-clause-back c = ?
+pub returns-then-not-stays-clause-back : goal.returns-then-not-stays-clause-back
+returns-then-not-stays-clause-back c =
+    ap (λ (g : Group). is_full g c.args.m c.args.n) c.take.ensures.after ∙ taken_back c.args.self.now c.args.n c.args.m c.args.number c.requires.two
