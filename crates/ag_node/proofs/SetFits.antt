@@ -70,11 +70,11 @@ some_in_range f x a (suc n) low high is =
     elim (cases_Bool (f a)) [
       | inl t ↦ rw t (omega arith)
       | inr t ↦ elim (cases_lt a x) [
-          | inl more ↦ rw t (some_in_range f x (a + 1) n (omega (arith, more)) (omega (arith, high)) is)
-          | inr same ↦
-              let e : x ≡ a = omega (arith, low, same) in
-              absurd (false≢true (sym t ∙ ap f (sym e) ∙ is))
-        ]
+        | inl more ↦ rw t (some_in_range f x (a + 1) n (omega (arith, more)) (omega (arith, high)) is)
+        | inr same ↦
+            let e : x ≡ a = omega (arith, low, same) in
+            absurd (false≢true (sym t ∙ ap f (sym e) ∙ is))
+      ]
     ]
 
 -- the page of a pair is listed

@@ -327,7 +327,8 @@ mod tests {
     use ag_model::value::Value;
     use std::test::Fail;
 
-    fn block(alloc: Global) -> Result<RecordList, NoMemory>
+    /// A Put and its Commit, and the start of a term where one is given.
+    fn block(alloc: Global, start: Option<u64>) -> Result<RecordList, NoMemory>
         ensures { IfOk result ArePayload }
     {
         let value = Value {
@@ -342,6 +343,9 @@ mod tests {
             value,
         })?;
         block.push(Record::Commit { txn: 1, pages })?;
+        if let Some(term) = start {
+            block.push(Record::Term { term })?;
+        }
         Ok(block)
     }
 
@@ -349,9 +353,8 @@ mod tests {
     fn answers_about_three_blocks(rt: HostRuntime) -> Result<(), Fail> {
         let alloc = rt.alloc();
         let mut log = HardenedLog::opening(alloc)?;
-        log.append(&mut block(alloc)?)?;
-        let mut third = block(alloc)?;
-        third.push(Record::Term { term: 5 })?;
+        log.append(&mut block(alloc, None)?)?;
+        let mut third = block(alloc, Some(5))?;
         log.append(&mut third)?;
         assert!(rt; third.is_empty());
         assert_eq!(rt; log.end(), 6);
