@@ -59,9 +59,9 @@ block_full h n r term b = by_state (r.state == 1) refl
         (record { when = nat_lt (end r + 1) b.first; part = refused (Gap (end r + 1) b.first) r })
         (record { when = (r.state == 1) && true; part = refused (LinkFull h.number n) r })
         (
-          record { when = nat_le b.first (end r); part = sending (No Nothing) (acks n r (end r)) r }
-          ∷ record { when = (log_check r (b.records ∷ [])).when; part = refused (log_check r (b.records ∷ [])).refusal r }
-          ∷ []
+        record { when = nat_le b.first (end r); part = sending (No Nothing) (acks n r (end r)) r }
+        ∷ record { when = (log_check r (b.records ∷ [])).when; part = refused (log_check r (b.records ∷ [])).refusal r }
+        ∷ []
         )
         (writing (Hardened (end r + length b.records)) (each_synced (Block_write b.records ∷ [])) (acks n r (end r + length b.records)) r)
         refl refl (ap (λ (x : Bool). x && true) e) refl

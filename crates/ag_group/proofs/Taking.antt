@@ -22,7 +22,7 @@ pub taken_out : (before after : List (List ℕ)) (k : ℕ) (r : Result (Unit {0}
     → messages_of after ≡ take (k - 1) (messages_of before) ++ drop k (messages_of before)
 taken_out before after k (Ok u) some rest same has = bytes_taken before after k rest
 taken_out before after k (Err e) some rest same has = elim (cases_order (length before) k) [
-    | inl e ↦ absurd (let f : false ≡ true = has.1 (omega (arith, some), omega (arith, e)) in cc)
-    | inr (inl l) ↦ bytes_taken before after k (same ∙ none_taken before k l)
-    | inr (inr g) ↦ absurd (let f : false ≡ true = has.1 (omega (arith, some), omega (arith, g)) in cc)
-  ]
+  | inl e ↦ absurd (let f : false ≡ true = has.1 (omega (arith, some), omega (arith, e)) in cc)
+  | inr (inl l) ↦ bytes_taken before after k (same ∙ none_taken before k l)
+  | inr (inr g) ↦ absurd (let f : false ≡ true = has.1 (omega (arith, some), omega (arith, g)) in cc)
+]

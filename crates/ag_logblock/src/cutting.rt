@@ -1,5 +1,5 @@
 //! A payload cut up into sectors.
-ghost use Rattle.std.specs.Prelude.{◌≡◌, ◌++◌, ◌∷◌, [], ◌≤◌, ◌<◌, length, OnOk, OnErr};
+ghost use Rattle.std.specs.Prelude.{◌≡◌, ◌++◌, ◌∷◌, [], ◌≤◌, ◌<◌, ◌+◌, ◌/◌, length, OnOk, OnErr};
 ghost use Rattle.std.specs.Int.{w16, w64, to_be_bytes};
 ghost use Rattle.ag_logblock.specs.Block.{sector, sectors_for, block, HasBlock};
 
@@ -30,6 +30,13 @@ fn sector(head: &Head, count: u8, index: u8, part: &[u8]) -> Sector
     bytes[..28].copy_from_slice(&header(head, count, index, len as u16));
     bytes[28..28 + len].copy_from_slice(part);
     bytes
+}
+
+/// How many sectors a block with so many bytes of payload takes.
+pub fn sectors_of(bytes: u64) -> u64
+    ensures { result ≡ (bytes + 483) / 484 }
+{
+    bytes.div_ceil(484)
 }
 
 /// Appends the sectors of a block with this payload.

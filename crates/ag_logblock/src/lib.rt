@@ -8,7 +8,7 @@ mod cutting;
 mod joining;
 pub mod laws;
 
-pub use cutting::cut_up;
+pub use cutting::{cut_up, sectors_of};
 pub use joining::put_together;
 use std::alloc::AllocError;
 

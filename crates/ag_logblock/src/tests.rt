@@ -35,6 +35,22 @@ fn a_block_of_one_sector(rt: HostRuntime) -> Result<(), Fail> {
     Ok(())
 }
 
+#[test]
+fn sectors_by_bytes(rt: HostRuntime) -> Result<(), Fail> {
+    for (bytes, sectors) in [
+        (0, 0),
+        (1, 1),
+        (29, 1),
+        (484, 1),
+        (485, 2),
+        (1012, 3),
+        (15_488, 32),
+    ] {
+        assert_eq!(rt; sectors_of(bytes), sectors, "at {bytes}");
+    }
+    Ok(())
+}
+
 /// What putting together answers where one byte is changed.
 fn changed(
     rt: &HostRuntime,

@@ -311,7 +311,7 @@ fn listed_size(pages: &PageList) -> u64
 pub(crate) fn block_sectors_of(bytes: u64) -> u64
     ensures { result ≡ (bytes + 483) / 484 }
 {
-    bytes.div_ceil(484)
+    ag_logblock::sectors_of(bytes)
 }
 
 /// The same records again.

@@ -120,14 +120,16 @@ fn push_set(alloc: Global, text: &mut Vec<u8>, key: usize, bytes: usize) -> Resu
     for _ in 0..bytes {
         text.extend_from_slice(b"ee".as_slice())?;
     }
-    text.push(b'\n')
+    text.push(b'\n')?;
+    Ok(())
 }
 
 /// Adds a line of a word and a number.
 fn push_number(alloc: Global, text: &mut Vec<u8>, word: &[u8], n: usize) -> Result<(), AllocError> {
     text.extend_from_slice(word)?;
     text.extend_from_slice(n.to_string(alloc)?.as_bytes())?;
-    text.push(b'\n')
+    text.push(b'\n')?;
+    Ok(())
 }
 
 #[test]
