@@ -7,6 +7,7 @@ use Rattle.ag_outside.specs.declared.mem_disk.Change.{Change}
 use Rattle.ag_outside.specs.declared.mem_disk.Change.TheVariants.{Wrote, Synced}
 use Rattle.ag_outside.specs.Disks.{Content, Image, writes, put, WroteSo, MayAdd, IsImage, Elapses}
 use Rattle.ag_outside.specs.MemDisks.{changes, undo, overwritten, held, left_by}
+use Rattle.ag_outside.proofs.Puts.{then_adds}
 use Rattle.ag_outside.proofs.Past.{overwritten-wrote, overwritten-synced, put-at, put-apart, put-back, elapses}
 
 -- from an image and a record to another, by some of these writes
@@ -64,8 +65,6 @@ plain-adds now w ws among at content (inl reads) = elim (cases_eq at w.at) [
 ]
 plain-adds now w ws among at content (inr none) = absurd none
 
-then_adds : (ws : List SectorWrite) (a b c : ℕ → Content → Type 0) → MayAdd ws a b → MayAdd ws b c → MayAdd ws a c
-then_adds ws a b c first next at content is = elim (next at content is) [ | inl mid ↦ first at content mid | inr wrote ↦ inr wrote ]
 
 -- one write more
 pub goes_on : (traced : Bool) (old : Image) (was : List Change) (now : Image) (past : List Change) (ws : List SectorWrite) (w : SectorWrite) (bytes : List ℕ) → Went traced old was now past ws → now w.at ≡ Some bytes → WroteSo ws w.at (Some w.sector)

@@ -1,6 +1,6 @@
 //! A disk of sectors that a crash may leave in part: between two syncs each written sector holds its old bytes or any
 //! bytes written to it since.
-ghost use Rattle.std.specs.Prelude.{◌≡◌, ◌+◌, ◌<◌, ◌≤◌, ℕ, Bool, IsTrue, Some, None, length, OnOk, []};
+ghost use Rattle.std.specs.Prelude.{◌≡◌, ◌^◌, ◌+◌, ◌<◌, ◌≤◌, ℕ, Bool, IsTrue, Some, None, length, OnOk, []};
 ghost use Rattle.ag_outside.specs.declared.disk.DiskError.TheVariants.{NoMemory};
 ghost use Rattle.ag_outside.specs.Disks.{Content, Image, writes, put_all, MayAdd, SameImages, Only, IsImage, Elapses, HasCause};
 
@@ -116,6 +116,12 @@ pub trait Disk {
 
     /// What is read is one of the images.
     ghost reads_one: { (disk : Self) → IsTrue (keeps disk) → IsImage (may_hold disk) (reads disk) };
+
+    /// One that doesn't keep to the model tells no image.
+    ghost tells: { (disk : Self) (at : ℕ) (content : Content) → may_hold disk at content → IsTrue (keeps disk) };
+
+    /// A place fits its type.
+    ghost fits: { (disk : Self) → size disk < 2 ^ 32 };
 
     /// This moment is one of those since an earlier one.
     ghost counts_now: { (disk : Self) (t : ℕ) (image : Image) → t ≤ moment disk → IsImage (may_hold disk) image → left_since disk t image };

@@ -3,7 +3,7 @@ ghost use Rattle.std.specs.Prelude.{◌≡◌, ◌↔◌, ◌+◌, ◌-◌, ◌^
 ghost use Rattle.ag_outside.specs.declared.mem_disk.Change.TheVariants.{Wrote, Synced};
 ghost use Rattle.ag_outside.specs.Counts.{HasRisen};
 ghost use Rattle.ag_outside.specs.Disks.{put, put_all, writes, MayAdd, Elapses, HasCause};
-ghost use Rattle.std.proofs.Common.{inl, refl};
+ghost use Rattle.std.proofs.Common.{inl, refl, lit<};
 ghost use Rattle.ag_outside.specs.MemDisks.{bytes_at, image_of, image_of_zeros, changes, held, left_by, mem_reads, mem_changes, mem_traced, mem_calls, mem_faults, mem_failing, now_left, left_now};
 
 use crate::disk::{Disk, DiskError, Found, Sector, SectorWrite};
@@ -140,6 +140,10 @@ impl Disk for MemDisk {
     ghost faults = { mem_faults };
 
     ghost reads_one = { λ d _ at. inl refl };
+
+    ghost tells = { λ d at content held. refl };
+
+    ghost fits = { λ d. lit< tt };
 
     ghost counts_now = { λ d t left le now. now_left (mem_reads d) (mem_changes d) t left le now };
 

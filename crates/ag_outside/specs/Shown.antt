@@ -1,0 +1,41 @@
+-- What a scripted disk shows is one of its images.
+use Rattle.std.specs.Prelude.{◌≡◌, ◌⊎◌, ℕ, List, [], ◌∷◌, Option, Some, None, Bool, true, false, IsTrue, if◌then◌else◌, refl}
+use Rattle.std.specs.Bool.{MatchBool}
+use Rattle.std.proofs.Common.{sym, ap, subst, ◌∙◌, inl, inr}
+use Rattle.std.proofs.lemmas.Bool.Decides.{eqb_tells}
+use Rattle.ag_outside.specs.declared.disk.SectorWrite.{SectorWrite}
+use Rattle.ag_outside.specs.Disks.{Content, Image, put, put_all, WroteSo, IsImage}
+use Rattle.ag_outside.specs.Scripts.{ScriptedView, is_lost, overlay, shown, may_show}
+
+-- what is read
+abbrev pub reads_of : {D : Type 0} → (D → Image) → ScriptedView D → Image
+reads_of reads s = shown (reads s.disk) s.lost s.unsynced
+
+-- what is read of what is synced
+abbrev pub synced_of : {D : Type 0} → (D → Image) → ScriptedView D → Image
+synced_of reads s = overlay s.lost (reads s.disk)
+
+-- what a sector may hold after a crash
+abbrev pub holds_of : {D : Type 0} → (D → Bool) → (D → ℕ → Content → Type 0) → ScriptedView D → ℕ → Content → Type 0
+holds_of keeps may_hold s = may_show (keeps s.disk) (may_hold s.disk) s.lost s.unsynced
+
+-- a sector reads what it did, or what was written
+pub was_or_wrote : (ws : List SectorWrite) (image : Image) (at : ℕ) → (put_all image ws at ≡ image at) ⊎ WroteSo ws at (put_all image ws at)
+was_or_wrote [] image at = inl refl
+was_or_wrote (w ∷ ws) image at = elim (was_or_wrote ws (put image w) at) [
+  | inl was ↦ elim (eqb_tells at w.at) [
+    | inl here ↦ inr (inl (here.1, was ∙ ap (λ (b : Bool). if b then Some w.sector else image at) here.0))
+    | inr apart ↦ inl (was ∙ ap (λ (b : Bool). if b then Some w.sector else image at) apart.0)
+  ]
+  | inr wrote ↦ inr (inr wrote)
+]
+
+below : (b : Bool) (c : Content) (hold : Content → Type 0) → hold c → (x : Content) → x ≡ (if b then None else c) → MatchBool b (x ≡ None) (hold x)
+below true c hold held x is = is
+below false c hold held x is = subst hold (sym is) held
+
+pub shown_one : (keeps : Bool) (hold : ℕ → Content → Type 0) (image : Image) (lost : List (ℕ × ℕ)) (ws : List SectorWrite) → IsTrue keeps → IsImage hold image → IsImage (may_show keeps hold lost ws) (shown image lost ws)
+shown_one keeps hold image lost ws k one at = (k, elim (was_or_wrote ws (overlay lost image) at) [
+  | inl was ↦ inl (below (is_lost lost at) (image at) (hold at) (one at) (shown image lost ws at) was)
+  | inr wrote ↦ inr wrote
+])
