@@ -5,7 +5,7 @@ use Rattle.std.proofs.lemmas.Bool.Decides.{nat_tests}
 use Rattle.std.proofs.lemmas.List.{drop_more}
 use Rattle.ag_outside.specs.declared.disk.SectorWrite.{SectorWrite}
 use Rattle.ag_outside.specs.Disks.{Content, Image, put, put_all, WroteSo, MayAdd}
-use Rattle.ag_outside.specs.Scripts.{is_kept, kept, unless_written}
+use Rattle.ag_outside.specs.Scripts.{is_lost, overlay, shown, is_kept, kept, unless_written}
 use Rattle.ag_outside.proofs.Past.{put-at, put-apart}
 
 pub put_all-append : (image : Image) (xs ys : List SectorWrite) → put_all image (xs ++ ys) ≡ put_all (put_all image xs) ys
@@ -106,3 +106,27 @@ kept-takes mask i ws all all_next lt keeps is =
 pub kept-passes : (mask i : ℕ) (ws all : List SectorWrite) → i < length ws → is_kept mask i ≡ false → all ++ kept mask (i + 1) (drop (i + 1) ws) ≡ all ++ kept mask i (drop i ws)
 kept-passes mask i ws all lt not_ =
     ap (λ (xs : List SectorWrite). all ++ xs) (sym (kept-not mask i (get_or ws i none_written) (drop (i + 1) ws) not_) ∙ ap (kept mask i) (sym (drop_more ws i none_written lt)))
+
+-- the newest bytes are read whatever is below
+pub newest-some : (image : Image) (ws : List SectorWrite) (at : ℕ) (bytes : List ℕ) → put_all (λ _. None) ws at ≡ Some bytes → put_all image ws at ≡ Some bytes
+newest-some image ws at bytes is = elim (either ws at) [
+  | inl un ↦ absurd (cc (sym (un.reads (λ _. None)) ∙ is))
+  | inr written ↦ written.same image (λ _. None) ∙ is
+]
+
+no_none : (ws : List SectorWrite) (at : ℕ) (content : Content) → content ≡ None → WroteSo ws at content → ⊥
+no_none [] at content none wrote = wrote
+no_none (w ∷ ws) at content none (inl here) = absurd (cc (sym here.1 ∙ none))
+no_none (w ∷ ws) at content none (inr later) = no_none ws at content none later
+
+pub newest-none : (image : Image) (ws : List SectorWrite) (at : ℕ) → put_all (λ _. None) ws at ≡ None → put_all image ws at ≡ image at
+newest-none image ws at is = elim (either ws at) [
+  | inl un ↦ un.reads image
+  | inr written ↦ absurd (no_none ws at (put_all (λ _. None) ws at) is (written.wrote (λ _. None)))
+]
+
+pub reads_below : (image : Image) (lost : List (ℕ × ℕ)) (ws : List SectorWrite) (at : ℕ) (content : Content) → put_all (λ _. None) ws at ≡ None → is_lost lost at ≡ false → image at ≡ content → shown image lost ws at ≡ content
+reads_below image lost ws at content none found is = newest-none (overlay lost image) ws at none ∙ ap (λ (b : Bool). if b then None else image at) found ∙ is
+
+pub reads_lost : (image : Image) (lost : List (ℕ × ℕ)) (ws : List SectorWrite) (at : ℕ) → put_all (λ _. None) ws at ≡ None → is_lost lost at ≡ true → shown image lost ws at ≡ None
+reads_lost image lost ws at none lost_ = newest-none (overlay lost image) ws at none ∙ ap (λ (b : Bool). if b then None else image at) lost_

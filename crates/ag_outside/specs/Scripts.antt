@@ -69,10 +69,16 @@ abbrev pub fillers : ℕ → ℕ → ℕ → List SectorWrite
 fillers at mark zero = []
 fillers at mark (suc n) = record { at = at; sector = filler mark } ∷ fillers (suc at) (suc mark) n
 
+-- the image with so many sectors lost from this place on
+abbrev pub with_lost : ℕ → ℕ → Image → Image
+with_lost first zero image = image
+with_lost first (suc n) image = with_lost (suc first) n (λ at. if at == first then None else image at)
+
+-- the mark of a sector once so many are lost from this place on, with rising marks
+abbrev pub marked : ℕ → ℕ → ℕ → ℕ → Option ℕ → Option ℕ
+marked first mark zero at was = was
+marked first mark (suc n) at was = marked (suc first) (suc mark) n at (if at == first then Some mark else was)
+
 -- below, each lost sector reads as it was written over
 abbrev pub LostAsWritten : Image → List (ℕ × ℕ) → Type 0
 LostAsWritten image lost = (at mark : ℕ) → lookup (nat_eq at) lost ≡ Some mark → image at ≡ Some (filler mark)
-
--- the write that a stop names was reached, or the call that a fail names
-abbrev pub IsReached : Arm → ℕ → ℕ → Type 0
-IsReached order writes calls = ((mask : ℕ) × (order ≡ Stop writes mask)) ⊎ (order ≡ Fail calls)

@@ -1,11 +1,16 @@
 -- What a scripted disk shows is one of its images.
-use Rattle.std.specs.Prelude.{◌≡◌, ◌⊎◌, ℕ, List, [], ◌∷◌, Option, Some, None, Bool, true, false, IsTrue, if◌then◌else◌, refl}
+use Rattle.std.specs.Prelude.{◌≡◌, ◌⊎◌, ◌-◌, ◌^◌, ℕ, min, length, List, [], ◌∷◌, Option, Some, None, Bool, true, false, IsTrue, if◌then◌else◌, refl}
 use Rattle.std.specs.Bool.{MatchBool}
 use Rattle.std.proofs.Common.{sym, ap, subst, ◌∙◌, inl, inr}
 use Rattle.std.proofs.lemmas.Bool.Decides.{eqb_tells}
 use Rattle.ag_outside.specs.declared.disk.SectorWrite.{SectorWrite}
+use Rattle.ag_outside.specs.declared.order.Arm.{Arm}
+use Rattle.ag_outside.specs.declared.order.Arm.TheVariants.{Stop, Fail}
+use Rattle.ag_outside.specs.declared.order.Why.{Why}
+use Rattle.ag_outside.specs.declared.order.Why.TheVariants.{Nothing, Stopped, Device, Inner}
+use Rattle.ag_outside.specs.Counts.{HasRisen}
 use Rattle.ag_outside.specs.Disks.{Content, Image, put, put_all, WroteSo, IsImage}
-use Rattle.ag_outside.specs.Scripts.{ScriptedView, is_lost, overlay, shown, may_show}
+use Rattle.ag_outside.specs.Scripts.{ScriptedView, is_lost, overlay, shown, may_show, kept}
 
 -- what is read
 abbrev pub reads_of : {D : Type 0} → (D → Image) → ScriptedView D → Image
@@ -18,6 +23,27 @@ synced_of reads s = overlay s.lost (reads s.disk)
 -- what a sector may hold after a crash
 abbrev pub holds_of : {D : Type 0} → (D → Bool) → (D → ℕ → Content → Type 0) → ScriptedView D → ℕ → Content → Type 0
 holds_of keeps may_hold s = may_show (keeps s.disk) (may_hold s.disk) s.lost s.unsynced
+
+-- the write that a stop names was reached, or the call that a fail names
+abbrev pub IsReached : Arm → ℕ → ℕ → Type 0
+IsReached order writes calls = ((mask : ℕ) × (order ≡ Stop writes mask)) ⊎ (order ≡ Fail calls)
+
+-- A call failed, and this says why. `all` is what was kept back, with what the call writes.
+-- A stop keeps what its mask keeps of that, a fail nothing; else the disk below failed.
+abbrev pub Told : {D : Type 0} → (D → Bool) → (D → Image) → (D → ℕ) → ScriptedView D → ScriptedView D → List SectorWrite → Why → Type 0
+Told keeps reads faults old new all Nothing = ⊥
+Told keeps reads faults old new all (Stopped write count) =
+    (mask : ℕ) × (old.order ≡ Stop write mask) × (new.writes ≡ write) × (count ≡ min (length (kept mask 0 all)) (2 ^ 32 - 1)) × (new.unsynced ≡ []) × (IsTrue (keeps old.disk) → reads_of reads new ≡ put_all (synced_of reads old) (kept mask 0 all))
+Told keeps reads faults old new all Device =
+    (old.order ≡ Fail new.calls) × (new.unsynced ≡ []) × (IsTrue (keeps old.disk) → reads_of reads new ≡ synced_of reads old)
+Told keeps reads faults old new all Inner = HasRisen (faults old.disk) (faults new.disk)
+
+-- the same of a sync, which no stop meets
+abbrev pub ToldAtSync : {D : Type 0} → (D → Bool) → (D → Image) → (D → ℕ) → ScriptedView D → ScriptedView D → Why → Type 0
+ToldAtSync keeps reads faults old new Nothing = ⊥
+ToldAtSync keeps reads faults old new (Stopped write count) = ⊥
+ToldAtSync keeps reads faults old new Device = Told keeps reads faults old new [] Device
+ToldAtSync keeps reads faults old new Inner = Told keeps reads faults old new [] Inner
 
 -- a sector reads what it did, or what was written
 pub was_or_wrote : (ws : List SectorWrite) (image : Image) (at : ℕ) → (put_all image ws at ≡ image at) ⊎ WroteSo ws at (put_all image ws at)

@@ -106,7 +106,7 @@ pub trait Disk {
     /// After it, a crash leaves what is read.
     fn sync(&mut self) -> Result<(), DiskError>
         ensures durable { OnOk result (Only (reads self.old) (may_hold self.new)) }
-        ensures reads { OnOk result (reads self.new ≡ reads self.old) }
+        ensures reads { OnOk result (IsTrue (keeps self.old) → reads self.new ≡ reads self.old) }
         ensures crash { MayAdd [] (may_hold self.old) (may_hold self.new) }
         ensures time { Elapses (traced self.old) (moment self.old) (moment self.new) (left_since self.old) (left_since self.new) (may_hold self.new) }
         ensures cause { HasCause (faults self.old) (faults self.new) result }
