@@ -3,4 +3,7 @@
 
 mod master;
 
+mod sector;
+
 pub use master::Master;
+pub use sector::Loaded;

@@ -1,11 +1,11 @@
 -- What handing sectors down does to what is shown of a disk, and to what a crash may leave of it.
-use Rattle.std.proofs.Common.{◌≡◌, ℕ, zero, suc, ◌+◌, ◌<◌, ◌≤◌, ◌⊎◌, length, List, [], ◌∷◌, ◌++◌, Option, Some, None, Bool, true, false, IsTrue, is_some, nat_eq, if◌then◌else◌, refl, sym, ap, subst, ◌∙◌, arith, inl, inr}
+use Rattle.std.proofs.Common.{◌≡◌, ℕ, zero, suc, ◌+◌, ◌<◌, ◌≤◌, ◌⊎◌, length, List, [], ◌∷◌, ◌++◌, None, Bool, true, false, IsTrue, is_some, nat_eq, if◌then◌else◌, sym, ap, subst, ◌∙◌, arith, inl, inr}
 use Rattle.std.specs.Bool.{MatchBool}
 use Rattle.std.specs.Map.{lookup}
 use Rattle.ag_outside.specs.declared.disk.SectorWrite.{SectorWrite}
 use Rattle.ag_outside.specs.Disks.{Content, Image, writes, put_all, WroteSo, MayAdd, Only}
-use Rattle.ag_outside.specs.Scripts.{is_lost, overlay, shown, may_show, kept, is_kept, unless_written, InRange, LostAsWritten, filler, fillers}
-use Rattle.ag_outside.proofs.Puts.{either, Written, Unwritten, wrote-left, wrote-split}
+use Rattle.ag_outside.specs.Scripts.{is_lost, overlay, shown, may_show, kept, is_kept, unless_written, InRange, LostAsWritten, fillers}
+use Rattle.ag_outside.proofs.Puts.{either, Written, Unwritten, wrote-split}
 
 -- the lost sectors but those that these write
 abbrev pub Found : List SectorWrite → List (ℕ × ℕ) → List (ℕ × ℕ) → Type 0
@@ -42,10 +42,13 @@ module _ (keeps : Bool) (old new : Image) (hold then_hold : ℕ → Content → 
 
     pub shown-adds : (IsTrue keeps → new ≡ put_all old ws) → Only new then_hold → MayAdd ws hold then_hold → MayAdd [] (may_show keeps hold lost ws) (may_show keeps then_hold next [])
     shown-adds written only adds at content (k, inr none) = absurd none
-    shown-adds written only adds at content (k, inl below) = inl (k, elim (either ws at) [
-      | inl un ↦ below_adds (is_lost lost at) content (hold at) (then_hold at) (WroteSo ws at content) (adds at content) (subst (λ (b : Bool). MatchBool b (content ≡ None) (then_hold at content)) (still_lost at un) below)
-      | inr is ↦ inr (subst (WroteSo ws at) (sym (only at content (subst (λ (b : Bool). MatchBool b (content ≡ None) (then_hold at content)) (not_lost at is) below) ∙ ap (λ (im : Image). im at) (written k))) (is.wrote old))
-    ])
+    shown-adds written only adds at content (k, inl below) = inl (
+      k,
+      elim (either ws at) [
+        | inl un ↦ below_adds (is_lost lost at) content (hold at) (then_hold at) (WroteSo ws at content) (adds at content) (subst (λ (b : Bool). MatchBool b (content ≡ None) (then_hold at content)) (still_lost at un) below)
+        | inr is ↦ inr (subst (WroteSo ws at) (sym (only at content (subst (λ (b : Bool). MatchBool b (content ≡ None) (then_hold at content)) (not_lost at is) below) ∙ ap (λ (im : Image). im at) (written k))) (is.wrote old))
+      ],
+    )
 
     pub lost-stays : IsTrue keeps → (IsTrue keeps → new ≡ put_all old ws) → LostAsWritten old lost → LostAsWritten new next
     lost-stays k written was at mark is = elim (either ws at) [
@@ -75,7 +78,7 @@ module _ (lost next : List (ℕ × ℕ)) (same : (at : ℕ) → lookup (nat_eq a
 -- more is kept back
 pub kept-adds : (keeps : Bool) (hold : ℕ → Content → Type 0) (lost : List (ℕ × ℕ)) (xs ys : List SectorWrite) → MayAdd ys (may_show keeps hold lost xs) (may_show keeps hold lost (xs ++ ys))
 kept-adds keeps hold lost xs ys at content (k, inl below) = inl (k, inl below)
-kept-adds keeps hold lost xs ys at content (k, inr wrote) = elim (wrote-split xs ys at content wrote) [ | inl left ↦ inl (k, inr left) | inr right ↦ inr right ]
+kept-adds keeps hold lost xs ys at content (k, inr wrote) = elim (wrote-split xs ys at content wrote) [ inl left ↦ inl (k, inr left) | inr right ↦ inr right ]
 
 -- less is
 among-case : (b : Bool) (w : SectorWrite) (ws later : List SectorWrite) (at : ℕ) (content : Content) → (WroteSo later at content → WroteSo ws at content) → WroteSo (if b then w ∷ later else later) at content → WroteSo (w ∷ ws) at content
@@ -96,10 +99,10 @@ dropped keeps hold lost ws at content (k, inl below) = inl (k, inl below)
 dropped keeps hold lost ws at content (k, inr none) = absurd none
 
 pub only-adds : (ws : List SectorWrite) (a b c : ℕ → Content → Type 0) → MayAdd ws a b → MayAdd [] b c → MayAdd ws a c
-only-adds ws a b c first next at content is = elim (next at content is) [ | inl mid ↦ first at content mid | inr none ↦ absurd none ]
+only-adds ws a b c first next at content is = elim (next at content is) [ inl mid ↦ first at content mid | inr none ↦ absurd none ]
 
 pub adds-only : (ws : List SectorWrite) (a b c : ℕ → Content → Type 0) → MayAdd [] a b → MayAdd ws b c → MayAdd ws a c
-adds-only ws a b c first next at content is = elim (next at content is) [ | inl mid ↦ elim (first at content mid) [ | inl old ↦ inl old | inr none ↦ absurd none ] | inr wrote ↦ inr wrote ]
+adds-only ws a b c first next at content is = elim (next at content is) [ inl mid ↦ elim (first at content mid) [ inl old ↦ inl old | inr none ↦ absurd none ] | inr wrote ↦ inr wrote ]
 
 -- places in range
 pub in_range-append : (size : ℕ) (xs ys : List SectorWrite) → InRange size xs → InRange size ys → InRange size (xs ++ ys)

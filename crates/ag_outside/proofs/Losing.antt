@@ -1,12 +1,12 @@
 -- Sectors that are lost, written over below.
-use Rattle.std.proofs.Common.{◌≡◌, ℕ, zero, suc, ◌+◌, ◌-◌, ◌<◌, ◌≤◌, ◌⊎◌, List, [], ◌∷◌, ◌++◌, Option, Some, None, is_some, Bool, true, false, IsTrue, nat_eq, cond, if◌then◌else◌, ◌==◌, refl, sym, ap, subst, ◌∙◌, arith, inl, inr, append_assoc}
+use Rattle.std.proofs.Common.{◌≡◌, ℕ, zero, suc, ◌+◌, ◌-◌, ◌<◌, ◌⊎◌, List, [], ◌∷◌, ◌++◌, Option, Some, None, is_some, nat_eq, cond, if◌then◌else◌, ◌==◌, refl, sym, ap, ◌∙◌, arith, inl, inr}
 use Rattle.std.proofs.lemmas.Bool.{cases_eq}
 use Rattle.std.proofs.lemmas.Bool.Decides.{nat_tests}
 use Rattle.std.specs.Prelude.{Result, Ok, Err, IsOk, OnOk, OnErr}
 use Rattle.std.specs.Map.{lookup}
 use Rattle.ag_outside.specs.declared.disk.SectorWrite.{SectorWrite}
-use Rattle.ag_outside.specs.Disks.{Content, Image, put, put_all, WroteSo, MayAdd, Only}
-use Rattle.ag_outside.specs.Scripts.{is_lost, overlay, shown, may_show, LostAsWritten, filler, fillers, marked, with_lost}
+use Rattle.ag_outside.specs.Disks.{Content, Image, put, put_all}
+use Rattle.ag_outside.specs.Scripts.{overlay, shown, LostAsWritten, filler, fillers, marked, with_lost}
 use Rattle.ag_outside.proofs.Past.{put-at, put-apart}
 use Rattle.ag_outside.proofs.Puts.{put_all-append}
 

@@ -1,5 +1,5 @@
 -- How the images of a disk in memory grow with its record.
-use Rattle.std.proofs.Common.{◌≡◌, ℕ, suc, ◌+◌, ◌<◌, ◌≤◌, ◌⊎◌, List, [], ◌∷◌, ◌++◌, length, take, drop, Option, Some, Bool, true, false, IsTrue, if◌then◌else◌, ◌==◌, refl, sym, ap, subst, ◌∙◌, arith, inl, inr, ⊎_elim}
+use Rattle.std.proofs.Common.{◌≡◌, ℕ, ◌+◌, ◌≤◌, List, [], ◌∷◌, ◌++◌, length, take, drop, Some, Bool, true, false, refl, sym, ap, subst, ◌∙◌, arith, inl, inr}
 use Rattle.std.proofs.lemmas.List.{length-append, take-append-le, drop-append-le, take_all, drop_all}
 use Rattle.std.proofs.lemmas.Bool.{cases_eq}
 use Rattle.std.proofs.lemmas.Bool.Decides.{nat_tests}
@@ -7,7 +7,7 @@ use Rattle.std.proofs.Math.Nat.{eq-or-lt_of_le}
 use Rattle.ag_outside.specs.declared.disk.SectorWrite.{SectorWrite}
 use Rattle.ag_outside.specs.declared.mem_disk.Change.{Change}
 use Rattle.ag_outside.specs.declared.mem_disk.Change.TheVariants.{Wrote, Synced}
-use Rattle.ag_outside.specs.Disks.{Content, Image, put, WroteSo, MayAdd, IsImage, Elapses}
+use Rattle.ag_outside.specs.Disks.{Content, Image, put, WroteSo, IsImage, Elapses}
 use Rattle.ag_outside.specs.MemDisks.{changes, undo, overwritten, held, left_by}
 
 pub overwritten-wrote : (so_far : List SectorWrite) (past : List Change) (b : SectorWrite) → overwritten so_far (past ++ Wrote b ∷ []) ≡ b ∷ overwritten so_far past

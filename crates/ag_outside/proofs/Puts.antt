@@ -1,5 +1,5 @@
 -- Writes one after the other.
-use Rattle.std.proofs.Common.{◌≡◌, ℕ, suc, ◌+◌, ◌<◌, ◌⊎◌, Bool, true, false, append_assoc, List, [], ◌∷◌, ◌++◌, length, drop, get_or, Option, Some, None, if◌then◌else◌, ◌==◌, refl, sym, ap, subst, ◌∙◌, arith, inl, inr}
+use Rattle.std.proofs.Common.{◌≡◌, ℕ, suc, ◌+◌, ◌<◌, ◌⊎◌, Bool, true, false, append_assoc, List, [], ◌∷◌, ◌++◌, length, drop, get_or, Option, Some, None, if◌then◌else◌, ◌==◌, refl, sym, ap, ◌∙◌, arith, inl, inr}
 use Rattle.std.proofs.lemmas.Bool.{cases_eq}
 use Rattle.std.proofs.lemmas.Bool.Decides.{nat_tests}
 use Rattle.std.proofs.lemmas.List.{drop_more}
@@ -77,10 +77,10 @@ wrote-right (x ∷ xs) ys at content wrote = inr (wrote-right xs ys at content w
 pub wrote-split : (xs ys : List SectorWrite) (at : ℕ) (content : Content) → WroteSo (xs ++ ys) at content → WroteSo xs at content ⊎ WroteSo ys at content
 wrote-split [] ys at content wrote = inr wrote
 wrote-split (x ∷ xs) ys at content (inl here) = inl (inl here)
-wrote-split (x ∷ xs) ys at content (inr there) = elim (wrote-split xs ys at content there) [ | inl l ↦ inl (inr l) | inr r ↦ inr r ]
+wrote-split (x ∷ xs) ys at content (inr there) = elim (wrote-split xs ys at content there) [ inl l ↦ inl (inr l) | inr r ↦ inr r ]
 
 pub then_adds : (ws : List SectorWrite) (a b c : ℕ → Content → Type 0) → MayAdd ws a b → MayAdd ws b c → MayAdd ws a c
-then_adds ws a b c first next at content is = elim (next at content is) [ | inl mid ↦ first at content mid | inr wrote ↦ inr wrote ]
+then_adds ws a b c first next at content is = elim (next at content is) [ inl mid ↦ first at content mid | inr wrote ↦ inr wrote ]
 
 abbrev none_written : SectorWrite
 none_written = record { at = 0; sector = [] }

@@ -1,14 +1,14 @@
 -- What the writes of a call so far have done to a disk in memory.
-use Rattle.std.proofs.Common.{◌≡◌, ℕ, suc, ◌+◌, ◌<◌, ◌≤◌, ◌⊎◌, get_or, List, [], ◌∷◌, ◌++◌, length, take, drop, Some, Bool, true, false, IsTrue, if◌then◌else◌, refl, sym, ap, subst, ◌∙◌, arith, inl, inr, ⊎_elim}
+use Rattle.std.proofs.Common.{◌≡◌, ℕ, suc, ◌+◌, ◌<◌, ◌⊎◌, get_or, List, [], ◌∷◌, ◌++◌, length, take, drop, Some, Bool, true, false, IsTrue, if◌then◌else◌, refl, sym, ap, subst, ◌∙◌, arith, inl, inr}
 use Rattle.std.proofs.lemmas.Bool.{cases_eq}
 use Rattle.std.proofs.lemmas.List.{drop_more}
 use Rattle.ag_outside.specs.declared.disk.SectorWrite.{SectorWrite}
 use Rattle.ag_outside.specs.declared.mem_disk.Change.{Change}
-use Rattle.ag_outside.specs.declared.mem_disk.Change.TheVariants.{Wrote, Synced}
+use Rattle.ag_outside.specs.declared.mem_disk.Change.TheVariants.{Wrote}
 use Rattle.ag_outside.specs.Disks.{Content, Image, writes, put, WroteSo, MayAdd, IsImage, Elapses}
-use Rattle.ag_outside.specs.MemDisks.{changes, undo, overwritten, held, left_by}
+use Rattle.ag_outside.specs.MemDisks.{changes, undo, held, left_by}
 use Rattle.ag_outside.proofs.Puts.{then_adds}
-use Rattle.ag_outside.proofs.Past.{overwritten-wrote, overwritten-synced, put-at, put-apart, put-back, elapses}
+use Rattle.ag_outside.proofs.Past.{overwritten-wrote, put-at, put-apart, put-back, elapses}
 
 -- from an image and a record to another, by some of these writes
 pub record Went (traced : Bool) (old : Image) (was : List Change) (now : Image) (past : List Change) (ws : List SectorWrite) : Type 0 where
@@ -64,7 +64,6 @@ plain-adds now w ws among at content (inl reads) = elim (cases_eq at w.at) [
   | inr apart ↦ inl (inl (reads ∙ put-apart now w at apart))
 ]
 plain-adds now w ws among at content (inr none) = absurd none
-
 
 -- one write more
 pub goes_on : (traced : Bool) (old : Image) (was : List Change) (now : Image) (past : List Change) (ws : List SectorWrite) (w : SectorWrite) (bytes : List ℕ) → Went traced old was now past ws → now w.at ≡ Some bytes → WroteSo ws w.at (Some w.sector)

@@ -1,14 +1,11 @@
 -- A disk that follows an order over another one, and what it keeps back until a sync.
-use Rattle.std.specs.Prelude.{◌≡◌, ◌⊎◌, ◌+◌, ◌-◌, ◌/◌, ◌%◌, ◌^◌, ◌<◌, ◌≤◌, ℕ, zero, suc, List, [], ◌∷◌, ◌++◌, length, replicate, min, Option, Some, None, is_some, Bool, true, false, IsTrue, nat_eq, ◌==◌, if◌then◌else◌}
+use Rattle.std.specs.Prelude.{◌≡◌, ◌⊎◌, ◌/◌, ◌%◌, ◌^◌, ◌<◌, ℕ, zero, suc, List, [], ◌∷◌, ◌++◌, replicate, Option, Some, None, is_some, Bool, IsTrue, nat_eq, ◌==◌, if◌then◌else◌}
 use Rattle.std.specs.Bool.{MatchBool}
 use Rattle.std.specs.List.{AllByRecursion}
 use Rattle.std.specs.Map.{lookup}
 use Rattle.ag_outside.specs.declared.disk.SectorWrite.{SectorWrite}
 use Rattle.ag_outside.specs.declared.order.Arm.{Arm}
-use Rattle.ag_outside.specs.declared.order.Arm.TheVariants.{Stop, Fail}
 use Rattle.ag_outside.specs.declared.order.Why.{Why}
-use Rattle.ag_outside.specs.declared.order.Why.TheVariants.{Nothing, Stopped, Device, Inner}
-use Rattle.ag_outside.specs.Counts.{HasRisen}
 use Rattle.ag_outside.specs.Disks.{Content, Image, put_all, WroteSo}
 
 -- what is seen of a scripted disk: the disk below, what isn't handed down yet in order of writing, the lost sectors with

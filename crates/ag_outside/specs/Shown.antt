@@ -1,5 +1,5 @@
 -- What a scripted disk shows is one of its images.
-use Rattle.std.specs.Prelude.{◌≡◌, ◌⊎◌, ◌-◌, ◌^◌, ℕ, min, length, List, [], ◌∷◌, Option, Some, None, Bool, true, false, IsTrue, if◌then◌else◌, refl}
+use Rattle.std.specs.Prelude.{◌≡◌, ◌⊎◌, ◌-◌, ◌^◌, ℕ, min, length, List, [], ◌∷◌, Some, None, Bool, true, false, IsTrue, if◌then◌else◌, refl}
 use Rattle.std.specs.Bool.{MatchBool}
 use Rattle.std.proofs.Common.{sym, ap, subst, ◌∙◌, inl, inr}
 use Rattle.std.proofs.lemmas.Bool.Decides.{eqb_tells}
@@ -61,7 +61,10 @@ below true c hold held x is = is
 below false c hold held x is = subst hold (sym is) held
 
 pub shown_one : (keeps : Bool) (hold : ℕ → Content → Type 0) (image : Image) (lost : List (ℕ × ℕ)) (ws : List SectorWrite) → IsTrue keeps → IsImage hold image → IsImage (may_show keeps hold lost ws) (shown image lost ws)
-shown_one keeps hold image lost ws k one at = (k, elim (was_or_wrote ws (overlay lost image) at) [
-  | inl was ↦ inl (below (is_lost lost at) (image at) (hold at) (one at) (shown image lost ws at) was)
-  | inr wrote ↦ inr wrote
-])
+shown_one keeps hold image lost ws k one at = (
+  k,
+  elim (was_or_wrote ws (overlay lost image) at) [
+    | inl was ↦ inl (below (is_lost lost at) (image at) (hold at) (one at) (shown image lost ws at) was)
+    | inr wrote ↦ inr wrote
+  ],
+)

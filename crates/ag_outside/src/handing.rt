@@ -10,7 +10,11 @@ use std::alloc::{AllocError, Global};
 use std::collections::HashMap;
 
 /// Appends the writes of sectors one after the other.
-pub(crate) fn add_writes(unsynced: &mut Vec<SectorWrite>, first: u32, from: &[Sector]) -> Result<(), AllocError>
+pub(crate) fn add_writes(
+    unsynced: &mut Vec<SectorWrite>,
+    first: u32,
+    from: &[Sector],
+) -> Result<(), AllocError>
     requires { first + length from.now < 2 ^ 32 }
     ensures ok { OnOk result (unsynced.new.items ≡ unsynced.old.items ++ writes first from.now) }
     ensures err { OnErr result (unsynced.new.items ≡ unsynced.old.items) }
@@ -18,7 +22,10 @@ pub(crate) fn add_writes(unsynced: &mut Vec<SectorWrite>, first: u32, from: &[Se
     unsynced.reserve(from.len())?;
     let mut at = first;
     'sectors: for sector in from {
-        unsynced.push(SectorWrite { at, sector: *sector })?;
+        unsynced.push(SectorWrite {
+            at,
+            sector: *sector,
+        })?;
         at += 1;
     }
     Ok(())
@@ -31,7 +38,11 @@ fn is_kept(mask: u64, number: usize) -> bool
 }
 
 /// The writes that a mask keeps.
-pub(crate) fn keep(alloc: Global, mask: u64, unsynced: &[SectorWrite]) -> Result<Vec<SectorWrite>, AllocError>
+pub(crate) fn keep(
+    alloc: Global,
+    mask: u64,
+    unsynced: &[SectorWrite],
+) -> Result<Vec<SectorWrite>, AllocError>
     ensures { IfOk result (λ ws. ws.items ≡ kept mask 0 unsynced.now) }
 {
     let mut all = Vec::new(alloc);

@@ -2,7 +2,7 @@
 ghost use Rattle.std.specs.Prelude.{◌≡◌, ◌↔◌, ◌+◌, ◌-◌, ◌^◌, ◌<◌, ◌≤◌, ◌++◌, ◌∷◌, [], ℕ, Bool, IsTrue, Some, None, true, false, length, vec_len, vec_capacity, min, OnOk, OnErr, IsErr, IsErrOf, Contains, nat_eq, replicate, if◌then◌else◌};
 ghost use Rattle.ag_outside.specs.declared.mem_disk.Change.TheVariants.{Wrote, Synced};
 ghost use Rattle.ag_outside.specs.Counts.{HasRisen};
-ghost use Rattle.ag_outside.specs.Disks.{put, put_all, writes, MayAdd, Elapses, HasCause};
+ghost use Rattle.ag_outside.specs.Disks.{put, put_all, writes, MayAdd, SameImages, Only, Elapses, HasCause};
 ghost use Rattle.std.proofs.Common.{inl, refl, lit<};
 ghost use Rattle.ag_outside.specs.MemDisks.{bytes_at, image_of, image_of_zeros, changes, held, left_by, mem_reads, mem_changes, mem_traced, mem_calls, mem_faults, mem_failing, now_left, left_now};
 
@@ -34,7 +34,12 @@ pub struct MemDisk {
 }
 
 /// Writes a sector, and puts down what it had.
-fn put(sectors: &mut HashMap<u32, Sector>, traced: bool, past: &mut Vec<Change>, write: SectorWrite) -> Result<(), AllocError>
+fn put(
+    sectors: &mut HashMap<u32, Sector>,
+    traced: bool,
+    past: &mut Vec<Change>,
+    write: SectorWrite,
+) -> Result<(), AllocError>
     ensures written { OnOk result (image_of sectors.new ≡ put (image_of sectors.old) write) }
     ensures past { OnOk result (past.new.items ≡ (if traced then past.old.items ++ Wrote (record { at = write.at; sector = bytes_at sectors.old write.at }) ∷ [] else past.old.items)) }
     ensures same { OnErr result (image_of sectors.new ≡ image_of sectors.old) }
@@ -78,7 +83,15 @@ fn put_each(
 {
     let mut at = first;
     'sectors: for sector in from {
-        put(sectors, traced, past, SectorWrite { at, sector: *sector })?;
+        put(
+            sectors,
+            traced,
+            past,
+            SectorWrite {
+                at,
+                sector: *sector,
+            },
+        )?;
         at += 1;
     }
     Ok(())
@@ -123,6 +136,7 @@ fn fails(calls: &mut u64, faults: &mut u64, failing: &[u64]) -> bool
 
 impl Disk for MemDisk {
     ghost use Rattle.ag_outside.specs.declared.mem_disk.TheConstants.{SECTORS};
+
     ghost size = { λ _. SECTORS };
 
     ghost keeps = { λ _. true };
@@ -153,7 +167,20 @@ impl Disk for MemDisk {
         SECTORS
     }
 
-    fn write(&mut self, first: u32, from: &[Sector]) -> Result<(), DiskError> {
+    fn write(&mut self, first: u32, from: &[Sector]) -> Result<(), DiskError>
+        requires { first + length from.now ≤ SECTORS }
+        ensures written { OnOk result (IsTrue true → mem_reads self.new ≡ put_all (mem_reads self.old) (writes first from.now)) }
+        ensures crash { MayAdd (writes first from.now) (held (mem_reads self.old) (mem_changes self.old)) (held (mem_reads self.new) (mem_changes self.new)) }
+        ensures time { Elapses (mem_traced self.old) (length (mem_changes self.old)) (length (mem_changes self.new)) (left_by (mem_reads self.old) (mem_changes self.old)) (left_by (mem_reads self.new) (mem_changes self.new)) (held (mem_reads self.new) (mem_changes self.new)) }
+        ensures cause { HasCause (mem_faults self.old) (mem_faults self.new) result }
+        ensures size { SECTORS ≡ SECTORS }
+        ensures keeps { true ≡ true }
+        ensures traced { mem_traced self.new ≡ mem_traced self.old }
+        // It fails at the calls that it was told, and at no other.
+        ensures told { IsErrOf result DiskError.Failed ↔ Contains (mem_failing self.old) (mem_calls self.new) }
+        ensures calls { mem_calls self.new ≡ min (mem_calls self.old + 1) (2 ^ 64 - 1) }
+        ensures failing { mem_failing self.new ≡ mem_failing self.old }
+    {
         if fails(&mut self.calls, &mut self.faults, &self.failing) {
             return Err(DiskError::Failed);
         }
@@ -161,7 +188,22 @@ impl Disk for MemDisk {
         Ok(())
     }
 
-    fn read(&mut self, at: u32, into: &mut Sector) -> Result<Found, DiskError> {
+    fn read(&mut self, at: u32, into: &mut Sector) -> Result<Found, DiskError>
+        requires { at < SECTORS }
+        ensures bytes { result ≡ Ok Found.Bytes → IsTrue true → mem_reads self.old at ≡ Some into.new }
+        ensures lost { result ≡ Ok Found.Lost → IsTrue true → mem_reads self.old at ≡ None }
+        ensures reads { mem_reads self.new ≡ mem_reads self.old }
+        ensures crash { SameImages (held (mem_reads self.old) (mem_changes self.old)) (held (mem_reads self.new) (mem_changes self.new)) }
+        ensures time { Elapses (mem_traced self.old) (length (mem_changes self.old)) (length (mem_changes self.new)) (left_by (mem_reads self.old) (mem_changes self.old)) (left_by (mem_reads self.new) (mem_changes self.new)) (held (mem_reads self.new) (mem_changes self.new)) }
+        ensures cause { HasCause (mem_faults self.old) (mem_faults self.new) result }
+        ensures size { SECTORS ≡ SECTORS }
+        ensures keeps { true ≡ true }
+        ensures traced { mem_traced self.new ≡ mem_traced self.old }
+        // It fails at the calls that it was told, and at no other.
+        ensures told { IsErrOf result DiskError.Failed ↔ Contains (mem_failing self.old) (mem_calls self.new) }
+        ensures calls { mem_calls self.new ≡ min (mem_calls self.old + 1) (2 ^ 64 - 1) }
+        ensures failing { mem_failing self.new ≡ mem_failing self.old }
+    {
         if fails(&mut self.calls, &mut self.faults, &self.failing) {
             return Err(DiskError::Failed);
         }
@@ -169,7 +211,20 @@ impl Disk for MemDisk {
         Ok(Found::Bytes)
     }
 
-    fn sync(&mut self) -> Result<(), DiskError> {
+    fn sync(&mut self) -> Result<(), DiskError>
+        ensures durable { OnOk result (Only (mem_reads self.old) (held (mem_reads self.new) (mem_changes self.new))) }
+        ensures reads { OnOk result (IsTrue true → mem_reads self.new ≡ mem_reads self.old) }
+        ensures crash { MayAdd [] (held (mem_reads self.old) (mem_changes self.old)) (held (mem_reads self.new) (mem_changes self.new)) }
+        ensures time { Elapses (mem_traced self.old) (length (mem_changes self.old)) (length (mem_changes self.new)) (left_by (mem_reads self.old) (mem_changes self.old)) (left_by (mem_reads self.new) (mem_changes self.new)) (held (mem_reads self.new) (mem_changes self.new)) }
+        ensures cause { HasCause (mem_faults self.old) (mem_faults self.new) result }
+        ensures size { SECTORS ≡ SECTORS }
+        ensures keeps { true ≡ true }
+        ensures traced { mem_traced self.new ≡ mem_traced self.old }
+        // It fails at the calls that it was told, and at no other.
+        ensures told { IsErrOf result DiskError.Failed ↔ Contains (mem_failing self.old) (mem_calls self.new) }
+        ensures calls { mem_calls self.new ≡ min (mem_calls self.old + 1) (2 ^ 64 - 1) }
+        ensures failing { mem_failing self.new ≡ mem_failing self.old }
+    {
         if fails(&mut self.calls, &mut self.faults, &self.failing) {
             return Err(DiskError::Failed);
         }

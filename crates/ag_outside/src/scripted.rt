@@ -224,7 +224,13 @@ impl<D: Disk> Scripted<D> {
         ensures size { D.size self.new.disk ≡ D.size self.old.disk }
         ensures keeps { D.keeps self.new.disk ≡ D.keeps self.old.disk }
     {
-        match lose(&mut self.disk, &mut self.lost, &mut self.unsynced, first, count) {
+        match lose(
+            &mut self.disk,
+            &mut self.lost,
+            &mut self.unsynced,
+            first,
+            count,
+        ) {
             Ok(()) => Ok(()),
             Err(DiskError::NoMemory) => {
                 self.intact = false;
@@ -362,3 +368,6 @@ impl<D: Disk> Disk for Scripted<D> {
         self.sync_below()
     }
 }
+
+#[cfg(test)]
+mod tests;

@@ -1,7 +1,7 @@
-use Rattle.std.proofs.Common.{◌≡◌, [], ◌++◌, List, Bool, IsTrue, sym, ap, subst, ◌∙◌}
+use Rattle.std.proofs.Common.{[], ◌++◌, List, sym, ap, subst, ◌∙◌}
 use Rattle.ag_outside.specs.declared.disk.SectorWrite.{SectorWrite}
 use Rattle.ag_outside.specs.Disks.{put_all, MayAdd}
-use Rattle.ag_outside.specs.Scripts.{InRange, may_show, shown, fillers, LostAsWritten}
+use Rattle.ag_outside.specs.Scripts.{InRange, may_show, shown, fillers}
 use Rattle.ag_outside.proofs.Flushed.{reordered-shown, reordered-adds, reordered-lost, kept-adds, only-adds, adds-only, in_range-append, in_range-fillers}
 use Rattle.ag_outside.proofs.Losing.{lose-shown, lose-as_written, on_err}
 use Rattle.ag_outside.proofs.handing.lose.Goals as goal
@@ -39,8 +39,8 @@ returns-clause-lost g c =
     let fill = fillers c.args.first 18 c.args.count in
     let kept = c.args.unsynced.now.items in
     λ k was. lose-as_written c.args.first c.args.count (g.D.Disk.reads d) (g.D.Disk.reads e) c.args.lost.now.entries c.flush.new.lost.entries c.mark_lost.new.lost.entries kept c.mark_lost.ensures
-        (c.in_ok-flush.ensures.below k ∙ ap (put_all (g.D.Disk.reads d)) c.in_ok-add_fillers.ensures.ok)
-        (c.in_ok-flush.ensures.lost k (reordered-lost c.args.lost.now.entries c.reserve.new.self.entries c.reserve.ensures.entries.2 (g.D.Disk.reads d) was))
+    (c.in_ok-flush.ensures.below k ∙ ap (put_all (g.D.Disk.reads d)) c.in_ok-add_fillers.ensures.ok)
+    (c.in_ok-flush.ensures.lost k (reordered-lost c.args.lost.now.entries c.reserve.new.self.entries c.reserve.ensures.entries.2 (g.D.Disk.reads d) was))
 
 pub returns-clause-shown : goal.returns-clause-shown
 returns-clause-shown g c =
@@ -50,4 +50,4 @@ returns-clause-shown g c =
     let kept = c.args.unsynced.now.items in
     let moved = c.reserve.new.self.entries in
     λ k. lose-shown c.args.first c.args.count (g.D.Disk.reads d) (g.D.Disk.reads e) c.args.lost.now.entries c.flush.new.lost.entries c.mark_lost.new.lost.entries kept c.mark_lost.ensures
-        (c.in_ok-flush.ensures.shown k ∙ ap (shown (g.D.Disk.reads d) moved) c.in_ok-add_fillers.ensures.ok ∙ reordered-shown c.args.lost.now.entries moved c.reserve.ensures.entries.2 (g.D.Disk.reads d) (kept ++ fill))
+    (c.in_ok-flush.ensures.shown k ∙ ap (shown (g.D.Disk.reads d) moved) c.in_ok-add_fillers.ensures.ok ∙ reordered-shown c.args.lost.now.entries moved c.reserve.ensures.entries.2 (g.D.Disk.reads d) (kept ++ fill))

@@ -1,6 +1,5 @@
-use Rattle.std.proofs.Common.{◌≡◌, ◌+◌, ◌-◌, ◌<◌, ◌≤◌, ℕ, Option, Some, IsOk, nat_eq, cond, if◌then◌else◌, ◌==◌, ◌∙◌, ap, sym, arith}
+use Rattle.std.proofs.Common.{◌+◌, ◌-◌, ◌<◌, ◌∙◌, ap, sym, arith}
 use Rattle.std.specs.HashMap.{spare}
-use Rattle.std.specs.Map.{lookup}
 use Rattle.ag_outside.specs.Scripts.{marked}
 use Rattle.ag_outside.proofs.Losing.{marked_more, mark-turned, at_ok}
 use Rattle.ag_outside.proofs.handing.mark_lost.Goals as goal

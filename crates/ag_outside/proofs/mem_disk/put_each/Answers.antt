@@ -1,6 +1,6 @@
 use Rattle.std.proofs.Common.{◌≡◌, ◌+◌, List, [], ◌∷◌, Some, drop, get_or, refl, sym, ap, ◌∙◌, subst, arith, inl, inr}
 use Rattle.ag_outside.specs.declared.disk.SectorWrite.{SectorWrite}
-use Rattle.ag_outside.specs.Disks.{Image, put, put_all, writes, WroteSo}
+use Rattle.ag_outside.specs.Disks.{Image, put_all, writes, WroteSo}
 use Rattle.ag_outside.specs.MemDisks.{bytes_at, image_of}
 use Rattle.ag_outside.proofs.Went.{goes_on_to, stays_at, next_writes}
 use Rattle.ag_outside.proofs.mem_disk.put_each.Goals as goal

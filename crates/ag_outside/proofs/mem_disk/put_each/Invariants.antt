@@ -1,4 +1,4 @@
-use Rattle.std.proofs.Common.{◌≡◌, ◌+◌, ◌≤◌, ℕ, length, drop}
+use Rattle.std.proofs.Common.{◌≡◌, ◌+◌, ℕ, drop}
 use Rattle.ag_outside.specs.Disks.{Content, put_all, writes, WroteSo}
 use Rattle.ag_outside.specs.MemDisks.{image_of}
 use Rattle.ag_outside.proofs.Went.{Went}

@@ -1,5 +1,4 @@
-use Rattle.std.proofs.Common.{List, sym, ap, subst, ◌∙◌}
-use Rattle.ag_outside.specs.declared.disk.SectorWrite.{SectorWrite}
+use Rattle.std.proofs.Common.{sym, ap, subst, ◌∙◌}
 use Rattle.ag_outside.specs.Scripts.{InRange, kept}
 use Rattle.ag_outside.proofs.Flushed.{in_range-kept}
 use Rattle.ag_outside.proofs.scripted.Scripted.drop_others.Goals as goal

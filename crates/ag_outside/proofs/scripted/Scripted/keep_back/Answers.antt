@@ -1,5 +1,4 @@
-use Rattle.std.proofs.Common.{◌+◌, ◌≤◌, length, List, sym, ap, subst}
-use Rattle.ag_outside.specs.declared.disk.SectorWrite.{SectorWrite}
+use Rattle.std.proofs.Common.{◌+◌, ◌≤◌, length, sym, subst}
 use Rattle.ag_outside.specs.Disks.{writes}
 use Rattle.ag_outside.specs.Scripts.{ScriptedView, InRange}
 use Rattle.ag_outside.proofs.Flushed.{in_range-append, in_range-writes}

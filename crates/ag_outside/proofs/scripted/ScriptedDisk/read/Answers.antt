@@ -1,4 +1,4 @@
-use Rattle.std.proofs.Common.{◌≡◌, ℕ, Some, None, IsTrue, List, ◌∙◌, subst, sym, ap}
+use Rattle.std.proofs.Common.{◌≡◌, Some, None, IsTrue, List, ◌∙◌, subst, sym, ap}
 use Rattle.ag_outside.specs.declared.disk.SectorWrite.{SectorWrite}
 use Rattle.ag_outside.specs.Disks.{put_all}
 use Rattle.ag_outside.specs.Scripts.{ScriptedView, overlay}

@@ -1,4 +1,4 @@
-use Rattle.std.proofs.Common.{◌≡◌, ℕ, [], ◌++◌, List, ◌∙◌, subst, sym, ap}
+use Rattle.std.proofs.Common.{[], ◌++◌, ◌∙◌, subst, sym, ap}
 use Rattle.ag_outside.specs.Disks.{writes, MayAdd}
 use Rattle.ag_outside.specs.Scripts.{ScriptedView}
 use Rattle.ag_outside.specs.Shown.{reads_of, holds_of, synced_of}
@@ -14,7 +14,7 @@ returns-in-Some-clause-crash g c =
     let mid : ScriptedView _ = record s { writes = c.count_write.new.self.writes; calls = c.count_write.new.self.calls; unsynced = s.unsynced ++ ws } in
     let is = c.in_ok-keep_back.ensures.ok ∙ ap (λ (t : ScriptedView _). record t { unsynced = t.unsynced ++ ws }) c.count_write.ensures in
     only-adds ws (hold s) (hold mid) (hold c.stop.new.self) (kept-adds (g.D.Disk.keeps s.disk) (g.D.Disk.may_hold s.disk) s.lost s.unsynced ws)
-        (subst (λ (t : ScriptedView _). MayAdd [] (hold t) (hold c.stop.new.self)) is c.stop.ensures.crash)
+    (subst (λ (t : ScriptedView _). MayAdd [] (hold t) (hold c.stop.new.self)) is c.stop.ensures.crash)
 
 pub returns-in-None-clause-written : goal.returns-in-None-clause-written
 returns-in-None-clause-written g c =
