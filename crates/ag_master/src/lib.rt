@@ -2,8 +2,9 @@
 #![tactic(auto)]
 
 mod master;
-
 mod sector;
+mod store;
 
 pub use master::Master;
 pub use sector::Loaded;
+pub use store::{MasterFault, load, save};

@@ -1,5 +1,5 @@
 //! The bytes of a master, both ways. Neither way takes memory.
-ghost use Rattle.std.specs.Prelude.{◌≡◌, ◌++◌, ◌∷◌, ℕ, length, take, drop, replicate, slice_index, IsTrue, ◌↔◌};
+ghost use Rattle.std.specs.Prelude.{◌≡◌, ◌++◌, ◌∷◌, [], ℕ, length, take, drop, replicate, slice_index, IsTrue, ◌↔◌};
 ghost use Rattle.std.specs.Int.{w16, w64, to_be_bytes};
 ghost use Rattle.ag_master.specs.Spelling.{spelling, fields, letters, IsKept};
 ghost use Rattle.ag_master.specs.Loading.{IsLoaded};
@@ -55,18 +55,19 @@ fn bitmap(sector: &Sector) -> [u8; 256]
     bits
 }
 
+#[tactic(auto, unfolding(crate::specs::Spelling::fields))]
 fn fields(sector: &Sector) -> Master
     ensures { result ≡ fields sector.now }
 {
     Master {
-        format: BigEndian::read_u16(&sector[8..]),
+        format: BigEndian::read_u16(&sector[8..10]),
         state: sector[10],
-        incarnation: BigEndian::read_u64(&sector[12..]),
-        term: BigEndian::read_u64(&sector[20..]),
-        cut: BigEndian::read_u64(&sector[28..]),
-        undo: BigEndian::read_u64(&sector[36..]),
-        redo: BigEndian::read_u64(&sector[44..]),
-        pages: BigEndian::read_u16(&sector[52..]),
+        incarnation: BigEndian::read_u64(&sector[12..20]),
+        term: BigEndian::read_u64(&sector[20..28]),
+        cut: BigEndian::read_u64(&sector[28..36]),
+        undo: BigEndian::read_u64(&sector[36..44]),
+        redo: BigEndian::read_u64(&sector[44..52]),
+        pages: BigEndian::read_u16(&sector[52..54]),
         replica: sector[54],
         foreign: PageSet::from_bytes(&bitmap(sector)),
     }
