@@ -33,9 +33,9 @@ IsReached order writes calls = ((mask : ℕ) × (order ≡ Stop writes mask)) �
 abbrev pub Told : {D : Type 0} → (D → Bool) → (D → Image) → (D → ℕ) → ScriptedView D → ScriptedView D → List SectorWrite → Why → Type 0
 Told keeps reads faults old new all Nothing = ⊥
 Told keeps reads faults old new all (Stopped write count) =
-    (mask : ℕ) × (old.order ≡ Stop write mask) × (new.writes ≡ write) × (count ≡ min (length (kept mask 0 all)) (2 ^ 32 - 1)) × (new.unsynced ≡ []) × (IsTrue (keeps old.disk) → reads_of reads new ≡ put_all (synced_of reads old) (kept mask 0 all))
+    (mask : ℕ) × (old.order ≡ Stop write mask) × (new.writes ≡ write) × (count ≡ min (length (kept mask 0 all)) (2 ^ 32 - 1)) × (new.unsynced ≡ []) × (new.intact ≡ old.intact) × (IsTrue (keeps old.disk) → reads_of reads new ≡ put_all (synced_of reads old) (kept mask 0 all))
 Told keeps reads faults old new all Device =
-    (old.order ≡ Fail new.calls) × (new.unsynced ≡ []) × (IsTrue (keeps old.disk) → reads_of reads new ≡ synced_of reads old)
+    (old.order ≡ Fail new.calls) × (new.unsynced ≡ []) × (new.intact ≡ old.intact) × (IsTrue (keeps old.disk) → reads_of reads new ≡ synced_of reads old)
 Told keeps reads faults old new all Inner = HasRisen (faults old.disk) (faults new.disk)
 
 -- the same of a sync, which no stop meets

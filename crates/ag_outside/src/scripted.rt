@@ -201,6 +201,7 @@ impl<D: Disk> Scripted<D> {
         ensures crash { MayAdd (record { at = at; sector = sector.now } ∷ []) (holds_of D.keeps D.may_hold self.old) (holds_of D.keeps D.may_hold self.new) }
         ensures uncounted { (self.new.order ≡ self.old.order) × (self.new.writes ≡ self.old.writes) × (self.new.calls ≡ self.old.calls) }
         ensures why { self.new.why ≡ self.old.why ⊎ (self.new.why ≡ Why.Inner) × (result ≡ Err DiskError.Failed) }
+        ensures intact { OnOk result (self.new.intact ≡ self.old.intact) }
         ensures inner { IsErrOf result DiskError.Failed → HasRisen (D.faults self.old.disk) (D.faults self.new.disk) }
         ensures cause { HasCause self.old.faults self.new.faults result }
         ensures size { D.size self.new.disk ≡ D.size self.old.disk }
@@ -219,6 +220,7 @@ impl<D: Disk> Scripted<D> {
         ensures crash { OnErr result (MayAdd (fillers first 18 count) (holds_of D.keeps D.may_hold self.old) (holds_of D.keeps D.may_hold self.new)) }
         ensures uncounted { (self.new.order ≡ self.old.order) × (self.new.writes ≡ self.old.writes) × (self.new.calls ≡ self.old.calls) }
         ensures why { self.new.why ≡ self.old.why ⊎ (self.new.why ≡ Why.Inner) × (result ≡ Err DiskError.Failed) }
+        ensures intact { OnOk result (self.new.intact ≡ self.old.intact) }
         ensures inner { IsErrOf result DiskError.Failed → HasRisen (D.faults self.old.disk) (D.faults self.new.disk) }
         ensures cause { HasCause self.old.faults self.new.faults result }
         ensures size { D.size self.new.disk ≡ D.size self.old.disk }
@@ -315,6 +317,7 @@ impl<D: Disk> Disk for Scripted<D> {
         ensures reached { OnOk result (IsReached self.old.order self.new.writes self.new.calls → ⊥) }
         ensures told { IsErrOf result DiskError.Failed → Told D.keeps D.reads D.faults self.old self.new (self.old.unsynced ++ writes first from.now) self.new.why }
         ensures order { self.new.order ≡ self.old.order }
+        ensures stays { OnOk result ((self.new.why ≡ self.old.why) × (self.new.intact ≡ self.old.intact)) }
     {
         self.count_write();
         if fails_at(self.order, self.calls) {
@@ -327,7 +330,22 @@ impl<D: Disk> Disk for Scripted<D> {
         }
     }
 
-    fn read(&mut self, at: u32, into: &mut Sector) -> Result<Found, DiskError> {
+    fn read(&mut self, at: u32, into: &mut Sector) -> Result<Found, DiskError>
+        requires { at < D.size self.old.disk }
+        ensures bytes { result ≡ Ok Found.Bytes → IsTrue (D.keeps self.old.disk) → reads_of D.reads self.old at ≡ Some into.new }
+        ensures lost { result ≡ Ok Found.Lost → IsTrue (D.keeps self.old.disk) → reads_of D.reads self.old at ≡ None }
+        ensures reads { reads_of D.reads self.new ≡ reads_of D.reads self.old }
+        ensures crash { SameImages (holds_of D.keeps D.may_hold self.old) (holds_of D.keeps D.may_hold self.new) }
+        ensures time { Elapses false 0 0 (λ _. IsImage (holds_of D.keeps D.may_hold self.old)) (λ _. IsImage (holds_of D.keeps D.may_hold self.new)) (holds_of D.keeps D.may_hold self.new) }
+        ensures cause { HasCause self.old.faults self.new.faults result }
+        ensures size { D.size self.new.disk ≡ D.size self.old.disk }
+        ensures keeps { D.keeps self.new.disk ≡ D.keeps self.old.disk }
+        ensures traced { false ≡ false }
+        // It isn't counted, and changes nothing else.
+        ensures same { self.new ≡ record self.old { disk = self.new.disk; why = self.new.why; faults = self.new.faults } }
+        ensures why { self.new.why ≡ self.old.why ⊎ (self.new.why ≡ Why.Inner) × (result ≡ Err DiskError.Failed) }
+        ensures inner { IsErrOf result DiskError.Failed → HasRisen (D.faults self.old.disk) (D.faults self.new.disk) }
+    {
         match newest(&self.unsynced, at) {
             Some(sector) => {
                 *into = sector;
@@ -360,6 +378,7 @@ impl<D: Disk> Disk for Scripted<D> {
         ensures reached { OnOk result (self.old.order ≡ Arm.Fail self.new.calls → ⊥) }
         ensures told { IsErrOf result DiskError.Failed → ToldAtSync D.keeps D.reads D.faults self.old self.new self.new.why }
         ensures order { self.new.order ≡ self.old.order }
+        ensures stays { OnOk result ((self.new.why ≡ self.old.why) × (self.new.intact ≡ self.old.intact)) }
     {
         self.calls = self.calls.saturating_add(1);
         if fails_at(self.order, self.calls) {
