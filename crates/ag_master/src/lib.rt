@@ -8,3 +8,6 @@ mod store;
 pub use master::Master;
 pub use sector::Loaded;
 pub use store::{MasterFault, load, save};
+
+#[cfg(test)]
+mod tests;
