@@ -1,3 +1,5 @@
 pub mod Starts
 pub mod Parting
 pub mod Touches
+pub mod Unions
+pub mod Resuming

@@ -1,2 +1,4 @@
 pub mod Shared
 pub mod Touched
+pub mod Planned
+pub mod Resumed

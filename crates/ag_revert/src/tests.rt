@@ -97,7 +97,7 @@ fn opening(alloc: Global) -> Result<Log, NoMemory>
 }
 
 /// The set of these pages.
-fn set_of(pages: &[u16]) -> PageSet {
+pub(crate) fn set_of(pages: &[u16]) -> PageSet {
     let mut set = PageSet::empty();
     for page in pages {
         if (16..2064).contains(page) {
