@@ -99,7 +99,8 @@ impl Stripes {
         let mut front = last.published;
         for place in (0..STRIPES - 1).rev() {
             let state = &self.states[place];
-            front = front.min(state.published);
+            let least = front.min(state.published);
+            front = least;
         }
         front
     }

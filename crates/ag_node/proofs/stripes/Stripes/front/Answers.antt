@@ -19,5 +19,5 @@ loop-place-preserved c =
     let at : c.state.inside.published ≡ (get_or ss i d).published = ap (λ (s : Stripe). s.published) c.state.view_is in
     let rest : c.loop-place.front ≡ least (map (λ s. s.published) (drop (suc i) ss)) = c.loop-place.invariant ∙ (λ j. least (map (λ s. s.published) (drop (sym place j) (sym c.self.view_is j)))) in
     let all : least (map (λ s. s.published) (drop i ss)) ≡ min (get_or ss i d).published (least (map (λ s. s.published) (drop (suc i) ss))) = least_before ss i d (omega (arith, c.self.told, c.loop-place.auto.place, place)) in
-    let same : c.min-front.result ≡ least (map (λ s. s.published) (drop i ss)) = omega (arith, c.min-front.ensures, at, rest, all) in
+    let same : c.min-least.result ≡ least (map (λ s. s.published) (drop i ss)) = omega (arith, c.min-least.ensures, at, rest, all) in
     same ∙ ap (λ (x : List Stripe). least (map (λ s. s.published) (drop i x))) c.self.view_is
