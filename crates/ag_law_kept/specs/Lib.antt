@@ -1,0 +1,4 @@
+pub mod Known
+pub mod Past
+pub mod Tells
+pub mod Holds
