@@ -5,8 +5,7 @@ use Rattle.ag_model.specs.declared.record.Record.{Record}
 use Rattle.ag_model.specs.declared.record.Record.TheVariants.{Term}
 use Rattle.ag_model.specs.declared.config.Register.{Register}
 use Rattle.ag_model.specs.declared.config.Ticket.{Ticket}
-use Rattle.ag_model.specs.Rows.{contains}
-use Rattle.ag_model.specs.Txns.{page_numbers}
+use Rattle.ag_model.specs.Rows.{contains, page_numbers}
 use Rattle.ag_rules.specs.Replica.{Replica, Master, records, peer, is_reverting}
 use Rattle.ag_rules.specs.Group.{Group, replica, link, has}
 use Rattle.ag_rules.specs.ResumeMessage.{waits_for}
@@ -32,7 +31,7 @@ pub record IsSaved (pages : ℕ) (m : Master) : Type 0 where
 pub record IsState (past : Past) (n pages : ℕ) (r : Replica) : Type 0 where
   pub disk : IsSaved pages r.kept.master
   pub low : is_reverting r.state ≡ false → r.state ≤ 1
-  pub saved : is_reverting r.state ≡ false → is_reverting r.kept.master.state ≡ false
+  pub saved : is_reverting r.kept.master.state ≡ is_reverting r.state
   pub follows : r.state ≡ 1 → r.following.ticket ≡ None
   pub whole : r.state ≡ 0 → (ticket : Ticket) → waits_for r.following.ticket ticket ≡ true → past.told n (past.asked n) ≡ records r
 
@@ -43,6 +42,8 @@ pub record IsLeader (past : Past) (logs : Logs) (store : Register) (n : ℕ) (r 
   pub copy : r.term ≡ store.term → r.leading.synced ≡ store.synced
   pub old : r.term < store.term → past.safe (r.term + 1) ≡ true → has r.leading.synced (past.target (r.term + 1)) ≡ true
   pub peers : (m : ℕ) → IsKnown (past.told m r.term) (logs r.term) (peer r m).hardened
+  pub free : r.following.ticket ≡ None
+  pub normal : is_reverting r.state ≡ false
 
 -- it is known in term t that replica m has the term's own record
 pub record HasBegun (past : Past) (logs : Logs) (t m : ℕ) : Type 0 where
@@ -69,7 +70,7 @@ pub record IsTaken (past : Past) (logs : Logs) (t : ℕ) (r : Replica) : Type 0 
 pub record IsConfirmed (past : Past) (logs : Logs) (store : Register) (c : Confirmed) : Type 0 where
   pub some : 0 < c.lsn
   pub term : 0 < c.term
-  pub past : c.term ≤ store.term
+  pub reached : c.term ≤ store.term
   pub within : c.lsn ≤ length (logs c.term)
   pub commit : slice_get (logs c.term) (c.lsn - 1) ≡ c.commit
   pub held : c.term ≡ store.term → (m : ℕ) → has store.synced m ≡ true → IsKnown (past.told m c.term) (logs c.term) c.lsn
@@ -84,4 +85,5 @@ pub record Holds (past : Past) (confirmed : List Confirmed) (logs : Logs) (g : G
   pub messages : (a b : ℕ) → AllByRecursion (MessageTells past logs a (replica g a) b (replica g b)) (link g a b)
   pub members : (m : ℕ) → has g.register.synced m ≡ true → IsMember past logs g.register (length g.replicas) m (replica g m)
   pub takens : (t : ℕ) → t < g.register.term → past.safe (t + 1) ≡ true → IsTaken past logs t (replica g (past.target (t + 1)))
-  pub confirmed : AllByRecursion (IsConfirmed past logs g.register) confirmed
+  pub targets : (t : ℕ) → t < g.register.term → past.safe (t + 1) ≡ true → past.target (t + 1) < length g.config.modes
+  pub commits : AllByRecursion (IsConfirmed past logs g.register) confirmed

@@ -2,3 +2,4 @@ pub mod Known
 pub mod Past
 pub mod Tells
 pub mod Holds
+pub mod Laws
