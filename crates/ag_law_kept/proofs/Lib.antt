@@ -26,3 +26,5 @@ pub mod Opens
 pub mod Logged
 pub mod Runs
 pub mod Moments
+pub mod Chains
+pub mod Kept
