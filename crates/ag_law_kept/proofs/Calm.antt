@@ -1,6 +1,6 @@
 -- Events that leave log, saved term, state and ticket: those of transactions, of redo, of reads and looks, and the damage.
-use Rattle.std.proofs.Common.{◌≡◌, ℕ, zero, suc, ◌+◌, ◌≤◌, List, [], ◌∷◌, ◌++◌, length, map, take, get_or, Bool, true, false, inl, inr, refl, sym, ap, ◌∙◌, subst, arith}
-use Rattle.std.specs.Prelude.{None, Option, Some, ◌==◌, not}
+use Rattle.std.proofs.Common.{◌≡◌, ℕ, zero, suc, ◌+◌, List, [], ◌∷◌, ◌++◌, take, get_or, Bool, true, false, inl, refl, sym, ap, ◌∙◌, subst, arith}
+use Rattle.std.specs.Prelude.{Option}
 use Rattle.std.specs.List.{AllByRecursion}
 use Rattle.ag_model.specs.declared.record.Record.{Record}
 use Rattle.ag_model.specs.declared.record.Log.{Log}
@@ -15,8 +15,8 @@ use Rattle.ag_model.specs.declared.answer.Refusal.TheVariants.{Nothing}
 use Rattle.ag_model.specs.declared.event.Pair.{Pair}
 use Rattle.ag_model.specs.Rows.{page_of}
 use Rattle.ag_model.specs.Txns.{pages_of}
-use Rattle.ag_rules.specs.Replica.{Replica, Kept, Master, Leading, Peer, Stripe, records, end, full_log, effective, page_value, image, page, with_page, with_image, no_peer, front, is_reverting}
-use Rattle.ag_rules.specs.Plan.{Here, Part, Check, Case, Write, Batch, Note_write, Master_write, written, batch_written, all_written, each_synced, at_once, sending, writing, unless, first_case}
+use Rattle.ag_rules.specs.Replica.{Replica, Kept, Master, Leading, Peer, end, full_log, effective, page_value, image, page, with_page, with_image, no_peer, front, is_reverting}
+use Rattle.ag_rules.specs.Plan.{Here, Part, Check, Write, Batch, Note_write, all_written, each_synced, at_once, writing, unless}
 use Rattle.ag_rules.specs.Checks.{is_down, is_not_primary, is_not_secondary, reverts, buffer_is_full}
 use Rattle.ag_rules.specs.Access.{access, cases_of_access, pended, kind_of}
 use Rattle.ag_rules.specs.BeginEvent.{begin_part, checks_of_begin}
@@ -38,7 +38,7 @@ use Rattle.ag_rules.specs.AskEvent.{ask_part, checks_of_page_ask}
 use Rattle.ag_rules.specs.CutEvent.{cut_part}
 use Rattle.std.proofs.lemmas.Bool.{false≢true}
 use Rattle.ag_laws.proofs.Prefix.{prefix_refl}
-use Rattle.ag_laws.proofs.Plans.{if_has, Passes, unless_has, EachCase, AllPass, case_has}
+use Rattle.ag_laws.proofs.Plans.{Passes, unless_has, case_has}
 use Rattle.ag_laws.proofs.Lists.{all_append}
 use Rattle.ag_laws.proofs.Disks.{SameCore, core_refl, small_all, small_some, each_batches, notes_are_small, installs_are_small}
 use Rattle.ag_laws.proofs.Steps.{IsSmall, IsBatch}

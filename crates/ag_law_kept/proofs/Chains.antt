@@ -1,26 +1,25 @@
 -- What a chain of safe failovers keeps: up to a Commit to keep, the logs of its terms are the same.
-use Rattle.std.specs.Prelude.{if◌then◌else◌, ◌==◌, Option, Some, None, ◌&&◌, ◌||◌, slice_get, nat_lt, nat_le}
-use Rattle.std.proofs.Common.{◌≡◌, ◌≢◌, ℕ, zero, suc, ◌+◌, ◌-◌, ◌<◌, ◌≤◌, max, List, [], ◌∷◌, ◌++◌, length, take, Bool, true, false, refl, sym, ap, ◌∙◌, subst, arith, length-take-le, take_all}
+use Rattle.std.specs.Prelude.{◌==◌, Option, Some, None, ◌&&◌, slice_get, nat_lt, nat_le}
+use Rattle.std.proofs.Common.{◌≡◌, ℕ, zero, suc, ◌+◌, ◌-◌, ◌<◌, ◌≤◌, max, List, [], ◌∷◌, ◌++◌, length, take, Bool, true, false, refl, sym, ap, ◌∙◌, subst, arith, length-take-le}
 use Rattle.std.specs.List.{AllByRecursion, filter, fold, flat_map, list_any, enumerate_from}
-use Rattle.std.proofs.lemmas.Bool.{false≢true, eqb-true, eqb-false, leb-true, leb-false, ltb-true, ltb-false, lt-ltb, eq-eqb, and_parts}
+use Rattle.std.proofs.lemmas.Bool.{false≢true, eqb-true, leb-true, leb-false, ltb-true, lt-ltb, eq-eqb, and_parts}
 use Rattle.ag_model.specs.declared.record.Record.{Record}
 use Rattle.ag_model.specs.declared.record.Record.TheVariants.{Put, Del, Commit, Abort, Trim, Term}
 use Rattle.ag_model.specs.declared.config.TermStart.{TermStart}
-use Rattle.ag_model.specs.declared.config.Config.{Config}
-use Rattle.ag_model.specs.Starts.{start_by, term_starts, is_same_record}
+use Rattle.ag_model.specs.Starts.{start_by}
 use Rattle.ag_rules.specs.Group.{Group, replica}
 use Rattle.ag_rules.specs.Run.{Moment}
 use Rattle.ag_rules.specs.KeptLaw.{Confirmed, confirmed_in, is_safe_into, to_keep, is_same_commit, last_confirmed}
 use Rattle.ag_laws.specs.Prefix.{IsPrefixOf}
 use Rattle.ag_laws.specs.Logs.{Logs}
-use Rattle.ag_laws.proofs.Prefix.{prefix_refl, prefix_length, take_prefix}
+use Rattle.ag_laws.proofs.Prefix.{prefix_refl, prefix_length}
 use Rattle.ag_laws.proofs.Plans.{by_bool, if_has}
-use Rattle.ag_laws.proofs.Lists.{all_map, all_append, all_get}
+use Rattle.ag_laws.proofs.Lists.{all_map, all_append}
 use Rattle.ag_law_forks.proofs.Forks.{same_record}
 use Rattle.ag_law_kept.specs.Known.{IsKnown}
 use Rattle.ag_law_kept.specs.Past.{Past}
 use Rattle.ag_law_kept.specs.Holds.{HasBegun, IsTaken, IsConfirmed, Holds}
-use Rattle.ag_law_kept.proofs.Known.{known_less, same_beginning, get_prefix, get_within, take_is_prefix}
+use Rattle.ag_law_kept.proofs.Known.{known_less, same_beginning, get_within}
 
 -- a Commit that is at this place of what was confirmed
 abbrev pub Found : List Confirmed → Confirmed → Type 0

@@ -1,14 +1,13 @@
 -- `ack`: what is confirmed as synchronous is known of each member of the set, or of the target of a safe failover.
-use Rattle.std.specs.Prelude.{if◌then◌else◌, ◌==◌, not, nat_lt, Option, Some, None, ◌&&◌, slice_get}
-use Rattle.std.proofs.Common.{◌≡◌, ◌≢◌, ℕ, zero, suc, ◌+◌, ◌-◌, ◌<◌, ◌≤◌, List, [], ◌∷◌, ◌++◌, length, Bool, true, false, refl, sym, ap, ◌∙◌, subst, arith}
-use Rattle.std.specs.List.{AllByRecursion, filter, range_with_len}
-use Rattle.std.proofs.lemmas.Bool.{false≢true, not-false, and_parts, ltb-true, ltb-false}
-use Rattle.ag_model.specs.declared.record.Record.{Record}
+use Rattle.std.specs.Prelude.{if◌then◌else◌, ◌==◌, nat_lt, ◌&&◌, slice_get}
+use Rattle.std.proofs.Common.{◌≡◌, ℕ, ◌+◌, ◌-◌, ◌<◌, ◌≤◌, List, [], ◌∷◌, ◌++◌, length, true, false, refl, sym, ap, ◌∙◌, arith}
+use Rattle.std.specs.List.{AllByRecursion}
+use Rattle.std.proofs.lemmas.Bool.{not-false, and_parts, ltb-true, ltb-false}
 use Rattle.ag_model.specs.declared.answer.Answer.{Answer}
 use Rattle.ag_model.specs.declared.answer.Answer.TheVariants.{SyncAt, LocalAt}
 use Rattle.ag_rules.specs.Replica.{Replica, records, end, peer}
 use Rattle.ag_rules.specs.Group.{Group, replica, has}
-use Rattle.ag_rules.specs.Plan.{Part, here, at_once, unless}
+use Rattle.ag_rules.specs.Plan.{here, at_once}
 use Rattle.ag_rules.specs.AckEvent.{ack_part, checks_of_ack, late, late_members, confirmed}
 use Rattle.ag_rules.specs.KeptLaw.{Confirmed, confirmed_by}
 use Rattle.ag_laws.specs.Logs.{Logs}
@@ -16,9 +15,9 @@ use Rattle.ag_laws.proofs.Plans.{by_bool, if_has, unless_has}
 use Rattle.ag_laws.proofs.Lists.{all_append}
 use Rattle.ag_law_kept.specs.Known.{IsKnown}
 use Rattle.ag_law_kept.specs.Past.{Past}
-use Rattle.ag_law_kept.specs.Holds.{IsLeader, IsMember, IsConfirmed, Holds}
+use Rattle.ag_law_kept.specs.Holds.{IsLeader, IsConfirmed, Holds}
 use Rattle.ag_law_kept.proofs.Known.{known_less}
-use Rattle.ag_law_kept.proofs.World.{IsGrounded, HasOwn, Acts, IsWorld}
+use Rattle.ag_law_kept.proofs.World.{HasOwn, Acts, IsWorld}
 use Rattle.ag_law_kept.proofs.Events.{none_passes}
 
 module _ (past : Past) (cs : List Confirmed) (logs : Logs) (g : Group) (n lsn : ℕ) (w : IsWorld past logs g) (h : Holds past cs logs g) where

@@ -1,6 +1,6 @@
 -- `deliver`, `repeat` and `lose`.
-use Rattle.std.specs.Prelude.{◌==◌, not, Option, Some, None, slice_get}
-use Rattle.std.proofs.Common.{◌≡◌, ◌≢◌, ℕ, ◌-◌, ◌<◌, ◌≤◌, List, [], ◌∷◌, length, Bool, refl, sym, ap, ◌∙◌, subst, arith}
+use Rattle.std.specs.Prelude.{Option, Some, None, slice_get}
+use Rattle.std.proofs.Common.{◌≡◌, ◌≢◌, ℕ, ◌-◌, ◌<◌, List, [], ◌∷◌, length, Bool, refl, sym, ap, ◌∙◌, arith}
 use Rattle.ag_model.specs.declared.config.Register.{Register}
 use Rattle.ag_model.specs.declared.event.Suffix.{Suffix}
 use Rattle.ag_model.specs.declared.answer.Answer.TheVariants.{Lost}
@@ -8,33 +8,30 @@ use Rattle.ag_model.specs.declared.answer.Refusal.TheVariants.{NoMessage}
 use Rattle.ag_model.specs.declared.message.Message.{Message}
 use Rattle.ag_model.specs.declared.message.Body.{Body}
 use Rattle.ag_model.specs.declared.message.Body.TheVariants.{Hello, Resume, Block as OfBlock, Ack, PageAsk, PageGive, PageNo}
-use Rattle.ag_rules.specs.Replica.{Replica}
 use Rattle.ag_rules.specs.Group.{Group, replica, link, is_full}
 use Rattle.ag_rules.specs.Plan.{Part, here, at_once, at_node, refused}
-use Rattle.ag_rules.specs.Cut.{cut}
 use Rattle.ag_rules.specs.Checks.{is_down}
-use Rattle.ag_rules.specs.DeliverEvent.{plan_of_deliver, plan_of_message, delivered, arrives, message_part, taken, leaves, plan_of_lose, plan_of_loss}
+use Rattle.ag_rules.specs.DeliverEvent.{plan_of_deliver, plan_of_message, arrives, message_part, taken, leaves, plan_of_lose, plan_of_loss}
 use Rattle.ag_rules.specs.KeptLaw.{Confirmed}
 use Rattle.ag_laws.specs.Logs.{Logs, Setting}
 use Rattle.ag_laws.specs.Fits.{BodyFits, MessageFits}
 use Rattle.ag_laws.specs.Good.{Good}
-use Rattle.ag_laws.specs.Keeps.{Keeps}
 use Rattle.ag_laws.proofs.Plans.{if_has, unless_has}
 use Rattle.ag_laws.proofs.Lists.{all_get}
 use Rattle.ag_law_kept.specs.Past.{Past, Meets}
 use Rattle.ag_law_kept.specs.Tells.{BodyTells, MessageTells}
 use Rattle.ag_law_kept.specs.Holds.{Holds}
-use Rattle.ag_law_kept.proofs.World.{IsWorld, AreGrown, world}
+use Rattle.ag_law_kept.proofs.World.{IsWorld, world}
 use Rattle.ag_law_kept.proofs.Moved.{world_like}
 use Rattle.ag_law_kept.proofs.Posts.{holds_taken}
-use Rattle.ag_law_kept.proofs.Goes.{Fit, fit_of, Outcome}
+use Rattle.ag_law_kept.proofs.Goes.{fit_of}
 use Rattle.ag_law_kept.proofs.Calm.{same_calm}
 use Rattle.ag_law_kept.proofs.Grows.{block_calm, page_ask_calm, give_calm, no_page_calm}
 use Rattle.ag_law_kept.proofs.Leads.{cut_fits, cut_calm, ack_fits}
 use Rattle.ag_law_kept.proofs.Greets.{hello_holds}
 use Rattle.ag_law_kept.proofs.Resumes.{resume_holds}
 use Rattle.ag_law_kept.proofs.Stores.{Comes}
-use Rattle.ag_law_kept.proofs.Nexts.{Remembers, Next, next_same, cut_register}
+use Rattle.ag_law_kept.proofs.Nexts.{Remembers, next_same, cut_register}
 use Rattle.ag_law_kept.proofs.Events.{Comes2, calm}
 
 -- a message of n comes to m

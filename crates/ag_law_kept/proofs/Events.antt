@@ -1,59 +1,31 @@
 -- Each event keeps what holds, and adds what it confirms.
-use Rattle.std.specs.Prelude.{if◌then◌else◌, ◌==◌, not, nat_lt, nat_le, Option, Some, None, ◌&&◌, ◌||◌, slice_get}
-use Rattle.std.proofs.Common.{◌≡◌, ◌≢◌, ℕ, zero, suc, ◌+◌, ◌-◌, ◌<◌, ◌≤◌, ◌^◌, List, [], ◌∷◌, ◌++◌, length, Bool, true, false, inl, inr, ◌⊎◌, refl, sym, ap, ◌∙◌, subst, arith, append-nil}
-use Rattle.std.specs.List.{AllByRecursion, filter, range_with_len}
-use Rattle.std.proofs.lemmas.Bool.{false≢true, not-false, and_parts, or_parts, eqb-true, eqb-false, ltb-true, ltb-false}
-use Rattle.ag_model.specs.declared.record.Record.{Record}
-use Rattle.ag_model.specs.declared.config.Config.{Config}
+use Rattle.std.specs.Prelude.{if◌then◌else◌, ◌==◌, not, ◌&&◌}
+use Rattle.std.proofs.Common.{◌≡◌, ◌≢◌, ℕ, zero, suc, ◌+◌, ◌<◌, ◌≤◌, List, [], ◌∷◌, length, Bool, true, false, refl, sym, ap, ◌∙◌, arith}
+use Rattle.std.specs.List.{filter, range_with_len}
+use Rattle.std.proofs.lemmas.Bool.{false≢true, not-false, and_parts, or_parts, eqb-true, eqb-false}
 use Rattle.ag_model.specs.declared.config.Register.{Register}
 use Rattle.ag_model.specs.declared.event.Suffix.{Suffix}
-use Rattle.ag_model.specs.declared.event.Who.{Who}
-use Rattle.ag_model.specs.declared.value.Change.TheVariants.{Put as PutChange, Del as DelChange}
-use Rattle.ag_model.specs.declared.event.Event.{Event}
-use Rattle.ag_model.specs.declared.event.Event.TheVariants.{Begin, Get, Put, Del, Commit, Rollback, Set, Trim, Harden, Ack, Send, Deliver, Repeat, Lose, Apply, Raise, Redo, Read, Snap, View, Close, Report, Flush, Crash, Start, Spoil, Unread, Ask, Suspects, Page, Sectors, Status, Cut, Mend, Join, Resume, Sync, Timeout, Planned, Auto, Force, Finish}
-use Rattle.ag_model.specs.declared.answer.Answer.{Answer}
-use Rattle.ag_model.specs.declared.answer.Answer.TheVariants.{SyncAt, LocalAt, Lost, No}
-use Rattle.ag_model.specs.declared.answer.Refusal.TheVariants.{Nothing, NoTarget, NoMessage}
-use Rattle.ag_model.specs.declared.message.Message.{Message}
-use Rattle.ag_model.specs.declared.message.Body.{Body}
-use Rattle.ag_model.specs.declared.message.Body.TheVariants.{Hello, Resume as ResumeBody, Block as OfBlock, Ack as AckBody, PageAsk, PageGive, PageNo}
-use Rattle.ag_rules.specs.Replica.{Replica, records, end, peer, full_log, is_reverting}
-use Rattle.ag_rules.specs.Group.{Group, replica, with_replica, link, has, is_full}
-use Rattle.ag_rules.specs.Plan.{Part, Plan, Batch, here, at_once, at_node, refused, unless, Check}
+use Rattle.ag_model.specs.declared.answer.Refusal.TheVariants.{Nothing, NoTarget}
+use Rattle.ag_rules.specs.Group.{Group, replica, with_replica, has}
+use Rattle.ag_rules.specs.Plan.{Part, Plan, here, at_node, refused}
 use Rattle.ag_rules.specs.Cut.{cut}
-use Rattle.ag_rules.specs.Checks.{is_down}
-use Rattle.ag_rules.specs.Next.{named, apart, at_session, token, plan_of, suffix_of, done}
-use Rattle.ag_rules.specs.Script.{IsEvent, IsWho}
-use Rattle.ag_rules.specs.AckEvent.{ack_part, checks_of_ack, late, late_members, confirmed, has_commit}
-use Rattle.ag_rules.specs.DeliverEvent.{plan_of_deliver, plan_of_message, delivered, arrives, message_part, taken, leaves, plan_of_lose, plan_of_loss, no_page_part}
+use Rattle.ag_rules.specs.Next.{apart, at_session}
 use Rattle.ag_rules.specs.Failover.{moved, moved_by_force, plan_of_planned, plan_of_force, plan_of_auto, plan_to_first, targets, is_target, has_mode_auto, primary_serves, checks_of_planned, checks_of_force}
-use Rattle.ag_rules.specs.KeptLaw.{Confirmed, confirmed_by, confirmed_at}
+use Rattle.ag_rules.specs.KeptLaw.{Confirmed}
 use Rattle.ag_laws.specs.Logs.{Logs, Setting}
-use Rattle.ag_laws.specs.Fits.{BodyFits, MessageFits}
 use Rattle.ag_laws.specs.Good.{Good}
 use Rattle.ag_laws.specs.Keeps.{Keeps}
-use Rattle.ag_laws.proofs.Plans.{by_bool, if_has, unless_has}
-use Rattle.ag_laws.proofs.Lists.{all_append, all_get}
+use Rattle.ag_laws.proofs.Plans.{by_bool, if_has}
 use Rattle.ag_laws.proofs.Cuts.{cut_has}
-use Rattle.ag_laws.proofs.Events.{named_there}
-use Rattle.ag_law_kept.specs.Known.{IsKnown}
 use Rattle.ag_law_kept.specs.Past.{Past}
-use Rattle.ag_law_kept.specs.Tells.{BodyTells, MessageTells}
-use Rattle.ag_law_kept.specs.Holds.{IsLeader, IsMember, IsConfirmed, Holds}
-use Rattle.ag_law_kept.proofs.Known.{known_less}
-use Rattle.ag_law_kept.proofs.World.{IsGrounded, HasOwn, Acts, IsWorld, AreGrown, world}
+use Rattle.ag_law_kept.specs.Holds.{Holds}
+use Rattle.ag_law_kept.proofs.World.{IsWorld, AreGrown, world}
 use Rattle.ag_law_kept.proofs.Moved.{world_like}
-use Rattle.ag_law_kept.proofs.Posts.{holds_taken}
 use Rattle.ag_law_kept.proofs.Goes.{Fit, fit_of, Outcome, leader_on, goes_holds, fallen_holds, disk_core, DiskGoes, register_posted}
 use Rattle.ag_law_kept.proofs.Stops.{stop_has, fail_has}
-use Rattle.ag_law_kept.proofs.Calm.{PartCalm, same_calm, begin_calm, get_calm, put_calm, end_calm, set_calm, trim_calm, ack_event_calm, raise_calm, apply_calm, redo_calm, read_calm, view_calm, snap_calm, close_calm, suspects_calm, page_calm, sectors_calm, status_calm, spoil_calm, unread_calm, ask_event_calm, cut_event_calm}
-use Rattle.ag_law_kept.proofs.Grows.{crash_calm, harden_calm, flush_calm, finish_calm, report_calm, send_calm, block_calm, page_ask_calm, give_calm, no_page_calm}
-use Rattle.ag_law_kept.proofs.Leads.{PartFits, cut_fits, cut_calm, ack_fits, mend_fits, start_fits}
-use Rattle.ag_law_kept.proofs.Greets.{cut_quiet, hello_holds}
-use Rattle.ag_law_kept.proofs.Resumes.{resume_holds}
-use Rattle.ag_law_kept.proofs.Joins.{join_holds}
-use Rattle.ag_law_kept.proofs.Stores.{Comes, resume_event_holds, sync_holds, timeout_holds}
-use Rattle.ag_law_kept.proofs.Nexts.{Remembers, Next, next_same, cut_register, CanTake, failover_next}
+use Rattle.ag_law_kept.proofs.Calm.{PartCalm, same_calm}
+use Rattle.ag_law_kept.proofs.Leads.{PartFits, cut_fits, cut_calm}
+use Rattle.ag_law_kept.proofs.Nexts.{Remembers, Next, next_same, cut_register, failover_next}
 
 -- the first of some numbers that pass
 abbrev FirstPasses : (ℕ → Bool) → ℕ → List ℕ → Type 0

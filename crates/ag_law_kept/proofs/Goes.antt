@@ -1,6 +1,6 @@
 -- What an event owes at its replica, beside the invariant of the logs, and what follows of the group: once for all events.
-use Rattle.std.proofs.Common.{◌≡◌, ◌≢◌, ℕ, zero, suc, ◌+◌, ◌<◌, ◌≤◌, List, [], ◌∷◌, ◌++◌, max, length, take, set, get_or, true, false, inl, inr, ◌⊎◌, refl, sym, ap, ◌∙◌, subst, arith, get_or-set_same}
-use Rattle.std.specs.Prelude.{Option, Some, None, ◌==◌, ◌&&◌, if◌then◌else◌}
+use Rattle.std.proofs.Common.{◌≡◌, ◌≢◌, ℕ, ◌+◌, ◌<◌, ◌≤◌, List, [], ◌∷◌, ◌++◌, length, take, get_or, true, false, inl, inr, ◌⊎◌, refl, sym, ap, ◌∙◌, subst, arith, get_or-set_same}
+use Rattle.std.specs.Prelude.{None, ◌==◌, ◌&&◌}
 use Rattle.std.specs.List.{AllByRecursion}
 use Rattle.std.proofs.lemmas.Bool.{false≢true, eqb-true, eqb-false}
 use Rattle.ag_model.specs.declared.record.Record.{Record}
@@ -13,7 +13,7 @@ use Rattle.ag_model.specs.declared.message.Body.{Body}
 use Rattle.ag_model.specs.declared.message.Body.TheVariants.{Hello, Resume, Block as OfBlock, Ack, PageAsk, PageGive, PageNo}
 use Rattle.ag_rules.specs.Replica.{Replica, Kept, Master, records, end, peer, is_reverting, fallen}
 use Rattle.ag_rules.specs.Group.{Group, replica, with_replica, link, with_link, has, nobody}
-use Rattle.ag_rules.specs.Plan.{Part, Posting, posted, Batch, all_written, at_node}
+use Rattle.ag_rules.specs.Plan.{Part, Posting, posted, all_written, at_node}
 use Rattle.ag_rules.specs.Cut.{cut}
 use Rattle.ag_rules.specs.ResumeMessage.{waits_for}
 use Rattle.ag_rules.specs.KeptLaw.{Confirmed}
@@ -35,7 +35,7 @@ use Rattle.ag_law_kept.proofs.World.{IsWorld, AreGrown, term_rises}
 use Rattle.ag_law_kept.proofs.Longer.{Waits, messages_longer}
 use Rattle.ag_law_kept.proofs.Moved.{NewReplica, moved, world_like, fresh_of}
 use Rattle.ag_law_kept.proofs.Posts.{holds_posted, Sendable}
-use Rattle.ag_law_kept.proofs.Told.{told_holds, no_wait}
+use Rattle.ag_law_kept.proofs.Told.{told_holds}
 use Rattle.ag_law_kept.proofs.Stops.{stop_has, fail_has}
 
 -- a disk that an event may leave: its log and its saved term go on, and it doesn't begin to revert

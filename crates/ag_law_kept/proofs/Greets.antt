@@ -1,5 +1,5 @@
 -- A Hello comes: what the primary then knows is so, and the Resume that it sends cuts nothing that may be known.
-use Rattle.std.proofs.Common.{◌≡◌, ◌≢◌, ℕ, zero, suc, ◌+◌, ◌-◌, ◌<◌, ◌≤◌, List, [], ◌∷◌, length, take, drop, Bool, true, false, inl, refl, sym, ap, ◌∙◌, subst, arith, take_all, length-take-le, take-take}
+use Rattle.std.proofs.Common.{◌≡◌, ◌≢◌, ℕ, ◌+◌, ◌-◌, ◌<◌, ◌≤◌, List, [], ◌∷◌, length, take, Bool, true, false, refl, sym, ap, ◌∙◌, subst, arith, take_all, length-take-le}
 use Rattle.std.specs.Prelude.{◌==◌, not, nat_le, nat_lt}
 use Rattle.std.proofs.lemmas.Bool.{not-false, or_parts, leb-true, leb-false, ltb-true}
 use Rattle.std.proofs.lemmas.List.{get_or-set_other}
@@ -11,15 +11,14 @@ use Rattle.ag_model.specs.declared.event.Suffix.TheVariants.{Whole, Stop, Fail}
 use Rattle.ag_model.specs.Starts.{term_starts, last_term, fork_of_starts}
 use Rattle.ag_rules.specs.Replica.{Replica, Peer, records, end, with_peer}
 use Rattle.ag_rules.specs.Group.{Group, replica, with_replica, nobody}
-use Rattle.ag_rules.specs.Plan.{Part, Plan, Batch, here, at_node, posted}
+use Rattle.ag_rules.specs.Plan.{Plan, Batch, here, at_node}
 use Rattle.ag_rules.specs.Cut.{cut, stopped, failed, all_writes, stopped_disk, disk_before}
 use Rattle.std.specs.List.{sum_by}
 use Rattle.ag_rules.specs.HelloMessage.{hello_part, checks_of_hello, fork_with, greets, resume_message}
-use Rattle.ag_rules.specs.ResumeMessage.{waits_for}
 use Rattle.ag_rules.specs.KeptLaw.{Confirmed}
 use Rattle.ag_laws.specs.Prefix.{IsPrefixOf}
 use Rattle.ag_laws.specs.Logs.{Logs, IsTraced}
-use Rattle.ag_laws.proofs.Prefix.{prefix_refl, prefix_trans, prefix_length, take_prefix}
+use Rattle.ag_laws.proofs.Prefix.{prefix_refl, prefix_length, take_prefix}
 use Rattle.ag_laws.proofs.Plans.{by_bool, if_has, unless_has}
 use Rattle.ag_laws.proofs.Starts.{Agree, agree}
 use Rattle.ag_laws.proofs.BlockKeeps.{same_term}
@@ -28,10 +27,10 @@ use Rattle.ag_law_kept.specs.Known.{IsKnown, AtMost}
 use Rattle.ag_law_kept.specs.Past.{Past}
 use Rattle.ag_law_kept.specs.Tells.{HelloTells, ResumeTells}
 use Rattle.ag_law_kept.specs.Holds.{IsLeader, Holds}
-use Rattle.ag_law_kept.proofs.Known.{take_of_prefix, take_is_prefix, same_beginning, most_longer}
-use Rattle.ag_law_kept.proofs.World.{AreTraced, IsGrounded, HasOwn, Acts, IsWorld, AreGrown, last_rises}
+use Rattle.ag_law_kept.proofs.Known.{take_is_prefix, same_beginning, most_longer}
+use Rattle.ag_law_kept.proofs.World.{AreTraced, HasOwn, Acts, IsWorld, AreGrown, last_rises}
 use Rattle.ag_law_kept.proofs.Longer.{leader_longer}
-use Rattle.ag_law_kept.proofs.Goes.{Fit, fit_of, Outcome, new_replica, tells_holds, first_world, first_same}
+use Rattle.ag_law_kept.proofs.Goes.{fit_of, Outcome, new_replica, tells_holds, first_world, first_same}
 use Rattle.ag_law_kept.proofs.Calm.{still, same_calm}
 use Rattle.ag_law_kept.proofs.Leads.{cut_calm, leader_knows}
 

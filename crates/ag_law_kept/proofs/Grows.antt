@@ -1,23 +1,21 @@
 -- Events that write blocks or the master, or send: `harden`, `flush`, `finish`, `report`, `send`, `crash`, and messages with blocks, pages and asks.
-use Rattle.std.proofs.Common.{◌≡◌, ◌≢◌, ℕ, zero, suc, ◌+◌, ◌≤◌, ◌<◌, List, [], ◌∷◌, ◌++◌, length, map, take, get_or, Bool, true, false, inl, inr, refl, sym, ap, ◌∙◌, subst, arith, take_all, length-append, append-nil}
-use Rattle.std.specs.Prelude.{Option, Some, None, ◌==◌, ◌||◌, not, nat_le, nat_lt, if◌then◌else◌}
+use Rattle.std.proofs.Common.{◌≡◌, ℕ, zero, suc, ◌+◌, ◌≤◌, List, [], ◌∷◌, ◌++◌, length, map, take, Bool, true, false, inl, inr, refl, sym, ap, ◌∙◌, subst, arith, take_all, length-append}
+use Rattle.std.specs.Prelude.{Option, Some, None, ◌==◌, ◌||◌, not, nat_le}
 use Rattle.std.specs.List.{AllByRecursion}
 use Rattle.std.proofs.lemmas.Bool.{false≢true, not-false, or_parts, eqb-true, eqb-false}
 use Rattle.ag_model.specs.declared.record.Record.{Record}
 use Rattle.ag_model.specs.declared.record.Log.{Log}
-use Rattle.ag_model.specs.declared.answer.Answer.{Answer}
-use Rattle.ag_model.specs.declared.answer.Answer.TheVariants.{Installed, NoPage, Hardened}
+use Rattle.ag_model.specs.declared.answer.Answer.TheVariants.{Installed}
 use Rattle.ag_model.specs.declared.answer.Refusal.TheVariants.{Nothing}
 use Rattle.ag_model.specs.declared.message.Block.{Block}
-use Rattle.ag_model.specs.declared.message.Message.{Message}
 use Rattle.ag_model.specs.declared.message.Body.TheVariants.{Ack}
-use Rattle.ag_rules.specs.Replica.{Replica, Kept, Master, Peer, records, end, low, peer, no_peer, is_reverting, fallen, applied_of, page, with_page}
-use Rattle.ag_rules.specs.Plan.{Here, Part, Posting, Write, Batch, Block_write, Master_write, Page_write, written, batch_written, all_written, each_synced, at_once, writing, refused}
+use Rattle.ag_rules.specs.Replica.{Replica, Kept, Master, Peer, records, end, low, peer, no_peer, is_reverting, applied_of, page, with_page}
+use Rattle.ag_rules.specs.Plan.{Here, Write, Batch, Block_write, Master_write, written, batch_written, all_written, each_synced, writing}
 use Rattle.ag_rules.specs.Checks.{is_down}
 use Rattle.ag_rules.specs.Messages.{ack_to}
 use Rattle.ag_rules.specs.Redo.{notes_of, installs_of, install_of, installed, touched_by, touched_up_to, due_pages}
-use Rattle.ag_rules.specs.HardenEvent.{harden_part, checks_of_harden, hardens, hardened_one, harden_writes}
-use Rattle.ag_rules.specs.FlushEvent.{flush_part, checks_of_flush, flush_writes, by_eights, page_batch, pages_to_flush, flushed_master, flushes}
+use Rattle.ag_rules.specs.HardenEvent.{harden_part, checks_of_harden, hardened_one, harden_writes}
+use Rattle.ag_rules.specs.FlushEvent.{flush_part, checks_of_flush, by_eights, page_batch, pages_to_flush, flushed_master, flushes}
 use Rattle.ag_rules.specs.FinishEvent.{finish_part, checks_of_finish, finished, finished_master, finish_writes}
 use Rattle.ag_rules.specs.ReportEvent.{report_part, checks_of_report}
 use Rattle.ag_rules.specs.SendEvent.{send_part, checks_of_send, sends, with_sent, block_to_send}
@@ -25,17 +23,17 @@ use Rattle.ag_rules.specs.CrashEvent.{crash_part}
 use Rattle.ag_rules.specs.ResumeMessage.{waits_for}
 use Rattle.ag_rules.specs.BlockMessage.{block_part, cases_of_block, acks}
 use Rattle.ag_rules.specs.PageAskMessage.{page_ask_part, cases_of_ask}
-use Rattle.ag_rules.specs.PageGiveMessage.{page_give_part, checks_of_give, comes, coming_writes, installs, holds, with_come, is_last, initialising}
+use Rattle.ag_rules.specs.PageGiveMessage.{page_give_part, checks_of_give, comes, installs, holds, with_come, is_last, initialising}
 use Rattle.ag_rules.specs.DeliverEvent.{no_page_part}
 use Rattle.ag_laws.specs.Prefix.{IsPrefixOf}
-use Rattle.ag_laws.proofs.Prefix.{prefix_refl, prefix_trans}
-use Rattle.ag_laws.proofs.Plans.{by_bool, if_has, unless_has, case_has}
+use Rattle.ag_laws.proofs.Prefix.{prefix_refl}
+use Rattle.ag_laws.proofs.Plans.{if_has, case_has}
 use Rattle.ag_laws.proofs.Lists.{at_set, all_append}
 use Rattle.ag_laws.proofs.Disks.{SameCore, core_refl, core_trans, small_core, small_all, small_some, each_batches, notes_are_small, install_is_small, installs_are_small}
 use Rattle.ag_laws.proofs.Blocks.{small_then, small_then_all}
 use Rattle.ag_laws.proofs.Steps.{IsSmall, IsBatch}
 use Rattle.ag_law_kept.specs.Holds.{IsSaved}
-use Rattle.ag_law_kept.proofs.Goes.{DiskGoes, disk_core, ReplicaGoes, Fit, fallen_goes, LeadsOn, IsAckOf, IsOut, PartGoes}
+use Rattle.ag_law_kept.proofs.Goes.{DiskGoes, disk_core, ReplicaGoes, Fit, fallen_goes, IsAckOf, IsOut}
 use Rattle.ag_law_kept.proofs.Calm.{PartCalm, disk_refl, still, leads_still, quiet_calm, same_calm, checked_calm, goes_core, small_calm, still_calm}
 
 -- a disk with the same master, whose log goes on

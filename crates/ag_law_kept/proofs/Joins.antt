@@ -1,25 +1,22 @@
 -- `join`: a replica tells its whole log, and waits for a fresh ticket.
-use Rattle.std.specs.Prelude.{if◌then◌else◌, ◌==◌, not, Option, Some, None, ◌&&◌, ◌||◌}
-use Rattle.std.proofs.Common.{◌≡◌, ◌≢◌, ℕ, zero, suc, ◌+◌, ◌<◌, ◌≤◌, max, List, [], ◌∷◌, length, set, get_or, Bool, true, false, refl, sym, ap, ◌∙◌, subst, arith, length-set, set-set}
+use Rattle.std.specs.Prelude.{◌==◌, None}
+use Rattle.std.proofs.Common.{◌≡◌, ◌≢◌, ℕ, ◌+◌, ◌<◌, ◌≤◌, List, [], ◌∷◌, length, Bool, true, false, refl, sym, ap, ◌∙◌, subst, arith, length-set, set-set}
 use Rattle.std.specs.List.{AllByRecursion}
-use Rattle.std.proofs.lemmas.Bool.{false≢true, not-false, and_parts, eqb-true, eqb-false, eq-eqb}
+use Rattle.std.proofs.lemmas.Bool.{false≢true, not-false, and_parts, eqb-true, eqb-false}
 use Rattle.std.proofs.lemmas.List.{get_or-set_other}
 use Rattle.ag_model.specs.declared.record.Record.{Record}
 use Rattle.ag_model.specs.declared.config.Ticket.{Ticket}
 use Rattle.ag_model.specs.declared.event.Suffix.{Suffix}
-use Rattle.ag_model.specs.declared.message.Message.{Message}
 use Rattle.ag_model.specs.declared.message.Body.{Body}
 use Rattle.ag_model.specs.declared.message.Body.TheVariants.{Hello, Resume, Block as OfBlock, Ack, PageAsk, PageGive, PageNo}
-use Rattle.ag_model.specs.Starts.{term_starts, last_term}
-use Rattle.ag_rules.specs.Replica.{Replica, records, end, is_reverting}
-use Rattle.ag_rules.specs.Group.{Group, replica, with_replica, link, has, nobody, is_full}
+use Rattle.ag_rules.specs.Replica.{Replica, records, is_reverting}
+use Rattle.ag_rules.specs.Group.{Group, replica, with_replica, link, nobody}
 use Rattle.ag_model.specs.declared.answer.Answer.TheVariants.{Joined}
-use Rattle.ag_rules.specs.Plan.{sending, Part, Plan, Posting, here, at_node, posted}
+use Rattle.ag_rules.specs.Plan.{sending, Plan, Posting, here, at_node, posted}
 use Rattle.ag_rules.specs.Cut.{cut}
-use Rattle.ag_rules.specs.JoinEvent.{join_part, checks_of_join, joining, next_ticket, hello_message}
+use Rattle.ag_rules.specs.JoinEvent.{join_part, checks_of_join, joining, hello_message}
 use Rattle.ag_rules.specs.ResumeMessage.{waits_for}
 use Rattle.ag_rules.specs.KeptLaw.{Confirmed}
-use Rattle.ag_laws.specs.Prefix.{IsPrefixOf}
 use Rattle.ag_laws.specs.Logs.{Logs, Setting}
 use Rattle.ag_laws.specs.Fits.{IsGiven, BodyFits, MessageFits}
 use Rattle.ag_laws.proofs.Prefix.{prefix_refl}
@@ -29,14 +26,14 @@ use Rattle.ag_laws.proofs.Groups.{replicas_posted}
 use Rattle.ag_laws.proofs.Grow.{traced_prefix}
 use Rattle.ag_law_kept.specs.Known.{Covers}
 use Rattle.ag_law_kept.specs.Past.{Past, tell, ask}
-use Rattle.ag_law_kept.specs.Tells.{HelloTells, BodyTells, MessageTells}
-use Rattle.ag_law_kept.specs.Holds.{Knowing, IsState, IsLeader, Holds}
+use Rattle.ag_law_kept.specs.Tells.{BodyTells, MessageTells}
+use Rattle.ag_law_kept.specs.Holds.{Knowing, IsLeader, Holds}
 use Rattle.ag_law_kept.proofs.Known.{covers_refl}
-use Rattle.ag_law_kept.proofs.World.{AreTraced, IsGrounded, HasOwn, Acts, IsWorld, AreGrown}
+use Rattle.ag_law_kept.proofs.World.{IsGrounded, HasOwn, Acts, IsWorld, AreGrown}
 use Rattle.ag_law_kept.proofs.Longer.{Waits, knowing_longer, messages_longer}
 use Rattle.ag_law_kept.proofs.Moved.{NewReplica, moved, fresh_of}
 use Rattle.ag_law_kept.proofs.Posts.{holds_posted}
-use Rattle.ag_law_kept.proofs.Told.{no_wait, told_holds, asked_holds}
+use Rattle.ag_law_kept.proofs.Told.{told_holds, asked_holds}
 use Rattle.ag_law_kept.proofs.Goes.{Fit, fit_of, Outcome, first_world, first_same, told_same, waits_refl}
 use Rattle.ag_law_kept.proofs.Calm.{same_calm}
 use Rattle.ag_law_kept.proofs.Leads.{cut_calm}

@@ -1,21 +1,20 @@
 -- In each run a safe failover keeps every Commit that was confirmed as synchronous.
-use Rattle.std.specs.Prelude.{if◌then◌else◌, ◌==◌, Option, Some, None, slice_get, nat_le}
-use Rattle.std.proofs.Common.{◌≡◌, ℕ, zero, suc, ◌+◌, ◌-◌, ◌<◌, ◌≤◌, List, [], ◌∷◌, ◌++◌, length, take, Bool, true, false, refl, sym, ap, ◌∙◌, subst, arith, length-take-le}
-use Rattle.std.specs.List.{AllByRecursion, filter, flat_map}
-use Rattle.std.proofs.lemmas.Bool.{eqb-true, leb-true, leb-false}
+use Rattle.std.specs.Prelude.{if◌then◌else◌, ◌==◌, Some, slice_get}
+use Rattle.std.proofs.Common.{◌≡◌, ℕ, zero, suc, ◌+◌, ◌-◌, ◌<◌, ◌≤◌, List, [], ◌∷◌, length, take, refl, sym, ap, ◌∙◌, arith, length-take-le}
+use Rattle.std.specs.List.{AllByRecursion, filter}
+use Rattle.std.proofs.lemmas.Bool.{eqb-true}
 use Rattle.ag_model.specs.declared.record.Record.{Record}
 use Rattle.ag_model.specs.declared.record.Record.TheVariants.{Term}
 use Rattle.ag_model.specs.declared.config.TermStart.{TermStart}
 use Rattle.ag_model.specs.declared.config.Config.{Config}
 use Rattle.ag_model.specs.declared.event.Event.{Event}
 use Rattle.ag_model.specs.Starts.{term_starts}
-use Rattle.ag_rules.specs.Group.{Group, opening}
+use Rattle.ag_rules.specs.Group.{opening}
 use Rattle.ag_rules.specs.Run.{Moment, run}
 use Rattle.ag_rules.specs.Script.{IsScript}
 use Rattle.ag_rules.specs.TermLog.{term_log}
-use Rattle.ag_rules.specs.KeptLaw.{Confirmed, confirmed_in, to_keep, last_confirmed, starts_at, IsKept, KeptIn, KeptLaw}
+use Rattle.ag_rules.specs.KeptLaw.{confirmed_in, to_keep, last_confirmed, starts_at, IsKept, KeptIn, KeptLaw}
 use Rattle.ag_laws.specs.Logs.{Logs}
-use Rattle.ag_laws.proofs.Prefix.{prefix_refl}
 use Rattle.ag_laws.proofs.Plans.{by_bool}
 use Rattle.ag_laws.proofs.Lists.{all_map}
 use Rattle.ag_law_kept.proofs.Known.{get_prefix, get_within, take_is_prefix}

@@ -1,16 +1,13 @@
 -- What is known, and what may be known at most, where logs go on.
-use Rattle.std.proofs.Common.{◌≡◌, ℕ, zero, suc, ◌+◌, ◌-◌, ◌<◌, ◌≤◌, min, List, [], ◌∷◌, ◌++◌, length, take, drop, true, false, inl, inr, ◌⊎◌, refl, sym, ap, ◌∙◌, subst, arith, append_assoc, take-append-drop, length-take-le, take-take, take_all, length-take}
-use Rattle.std.specs.Prelude.{Option, Some, None, slice_get, nat_lt}
-use Rattle.std.proofs.lemmas.Bool.{ltb-true, ltb-false}
+use Rattle.std.proofs.Common.{◌≡◌, ℕ, zero, suc, ◌+◌, ◌<◌, ◌≤◌, List, [], ◌∷◌, ◌++◌, length, take, drop, inl, inr, ◌⊎◌, refl, sym, ap, ◌∙◌, subst, arith, take-append-drop, length-take-le, take-take, take_all}
+use Rattle.std.specs.Prelude.{Some, slice_get}
 use Rattle.ag_model.specs.declared.record.Record.{Record}
 use Rattle.ag_model.specs.declared.record.Record.TheVariants.{Put, Del, Commit, Abort, Trim, Term}
 use Rattle.ag_model.specs.declared.config.TermStart.{TermStart}
 use Rattle.ag_model.specs.Starts.{start_by, last_term}
 use Rattle.std.specs.List.{flat_map, fold, enumerate_from}
 use Rattle.ag_laws.specs.Prefix.{IsPrefixOf}
-use Rattle.ag_laws.specs.Logs.{Logs, IsTraced}
 use Rattle.ag_laws.proofs.Prefix.{prefix_refl, prefix_trans, prefix_length, take_prefix}
-use Rattle.ag_laws.proofs.Plans.{by_bool}
 use Rattle.ag_laws.proofs.Grow.{last_begun}
 use Rattle.ag_law_kept.specs.Known.{IsKnown, AtMost, Covers}
 

@@ -1,46 +1,43 @@
 -- Events of a primary, and of a replica that becomes one: an Ack comes, `mend`, `start` and the takeover of a failover.
-use Rattle.std.proofs.Common.{◌≡◌, ◌≢◌, ℕ, zero, suc, ◌+◌, ◌<◌, ◌≤◌, max, List, [], ◌∷◌, ◌++◌, length, map, take, get_or, Bool, true, false, inl, inr, refl, sym, ap, ◌∙◌, subst, arith, append_assoc, append-nil}
-use Rattle.std.specs.Prelude.{Option, Some, None, ◌==◌, ◌||◌, ◌&&◌, not, nat_le, if◌then◌else◌}
+use Rattle.std.proofs.Common.{◌≡◌, ℕ, zero, suc, ◌<◌, ◌≤◌, max, List, [], ◌∷◌, ◌++◌, length, map, take, get_or, Bool, true, false, inl, refl, sym, ap, ◌∙◌, subst, arith}
+use Rattle.std.specs.Prelude.{Option, None, ◌==◌, ◌||◌, not, nat_le}
 use Rattle.std.specs.List.{AllByRecursion}
-use Rattle.std.proofs.lemmas.Bool.{false≢true, not-false, or_parts, eqb-true, eqb-false, leb-true, leb-false}
+use Rattle.std.proofs.lemmas.Bool.{false≢true, not-false, or_parts, eqb-true, leb-true, leb-false}
 use Rattle.ag_model.specs.declared.record.Record.{Record}
-use Rattle.ag_model.specs.declared.record.Log.{Log}
 use Rattle.ag_model.specs.declared.config.Mode.{Mode}
 use Rattle.ag_model.specs.declared.config.Register.{Register}
 use Rattle.ag_model.specs.declared.config.Ticket.{Ticket}
 use Rattle.ag_model.specs.declared.event.Suffix.{Suffix}
-use Rattle.ag_model.specs.declared.answer.Answer.{Answer}
 use Rattle.ag_model.specs.declared.answer.Answer.TheVariants.{Mended}
 use Rattle.ag_model.specs.declared.answer.Refusal.TheVariants.{Nothing}
-use Rattle.ag_rules.specs.Replica.{Replica, Kept, Master, Peer, records, end, peer, no_peer, with_peer, is_reverting, stepped_down, all_at}
-use Rattle.ag_rules.specs.Group.{Group, replica, with_replica}
-use Rattle.ag_rules.specs.Plan.{Here, Part, Write, Block_write, Master_write, written, all_written, each_synced, at_once, at_node, unless}
+use Rattle.ag_rules.specs.Replica.{Replica, Kept, Master, Peer, end, peer, no_peer, with_peer, is_reverting, stepped_down, all_at}
+use Rattle.ag_rules.specs.Group.{Group, replica}
+use Rattle.ag_rules.specs.Plan.{Here, Part, Write, Block_write, Master_write, written, all_written, each_synced, at_once, at_node}
 use Rattle.ag_rules.specs.Cut.{cut}
 use Rattle.ag_rules.specs.Redo.{notes_of, touched_up_to, redone}
-use Rattle.ag_rules.specs.Promotion.{blocks_of, promotion_touches, promotion_writes, leads_now, new_leading}
+use Rattle.ag_rules.specs.Promotion.{blocks_of, promotion_touches, promotion_writes, leads_now}
 use Rattle.ag_rules.specs.AckMessage.{ack_message_part, checks_of_ack_message, known_peer}
 use Rattle.ag_rules.specs.CutEvent.{mend_part, told}
 use Rattle.ag_rules.specs.StartEvent.{start_part, checks_of_start, start_records, started_master, start_writes, starts_reverting, starts_first, starts_second, is_named, woken}
 use Rattle.ag_rules.specs.Failover.{takes_over, target}
 use Rattle.ag_rules.specs.ResumeMessage.{waits_for}
 use Rattle.ag_rules.specs.KeptLaw.{Confirmed}
-use Rattle.ag_laws.specs.Prefix.{IsPrefixOf}
 use Rattle.ag_laws.specs.Logs.{Logs}
 use Rattle.ag_laws.proofs.Prefix.{prefix_refl, prefix_trans}
 use Rattle.ag_laws.proofs.Plans.{by_bool, if_has, unless_has}
 use Rattle.ag_laws.proofs.Lists.{at_set}
-use Rattle.ag_laws.proofs.Disks.{SameCore, core_refl, small_all, small_some, each_batches, notes_are_small}
+use Rattle.ag_laws.proofs.Disks.{core_refl, small_all, small_some, each_batches, notes_are_small}
 use Rattle.ag_laws.proofs.Blocks.{small_then, small_then_all}
 use Rattle.ag_laws.proofs.BlockKeeps.{same_term}
-use Rattle.ag_laws.proofs.Steps.{IsSmall, IsBatch}
+use Rattle.ag_laws.proofs.Steps.{IsSmall}
 use Rattle.ag_law_kept.specs.Known.{IsKnown}
 use Rattle.ag_law_kept.specs.Past.{Past}
 use Rattle.ag_law_kept.specs.Holds.{IsSaved, IsLeader, Holds}
 use Rattle.ag_law_kept.proofs.Known.{known_none}
-use Rattle.ag_law_kept.proofs.World.{IsWorld, AreGrown, IsGrounded, Acts}
+use Rattle.ag_law_kept.proofs.World.{IsWorld, AreGrown}
 use Rattle.ag_law_kept.proofs.Longer.{leader_longer}
-use Rattle.ag_law_kept.proofs.Goes.{DiskGoes, disk_core, ReplicaGoes, Fit, fit_of, LeadsOn, leader_on, IsOut, PartGoes, Outcome, cut_holds}
-use Rattle.ag_law_kept.proofs.Calm.{PartCalm, disk_refl, still, leads_still, quiet_calm, same_calm, goes_core}
+use Rattle.ag_law_kept.proofs.Goes.{DiskGoes, disk_core, ReplicaGoes, Fit, leader_on, PartGoes, Outcome, cut_holds}
+use Rattle.ag_law_kept.proofs.Calm.{PartCalm, disk_refl, still, same_calm, goes_core}
 use Rattle.ag_law_kept.proofs.Grows.{log_goes, master_goes}
 
 -- an event after which a replica that acts as primary holds what one has to
@@ -120,7 +117,6 @@ unfolding mend_part
 mend_fits past logs n h r f number leads =
     let back : Replica = record r { cut_off = false } in
     let known : Replica = told h.store.synced back in
-    let Fits : Replica → Type 0 = λ x. PartFits past logs h.store h.pages n r (at_once Mended x) in
     unless_has (PartFits past logs h.store h.pages n r) (record { when = not r.cut_off; refusal = Nothing } ∷ []) r _
     (λ why. fits_of_calm past logs h.store h.pages n r _ leads (same_calm h.pages r _ f))
     (λ _. if_has (λ (x : Replica). PartFits past logs h.store h.pages n r (at_once Mended x)) r.leads _ back

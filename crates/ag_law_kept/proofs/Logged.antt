@@ -1,21 +1,18 @@
 -- The logs of the terms, read off the groups of a run.
 use Rattle.std.specs.Prelude.{if◌then◌else◌, ◌==◌, Option, Some, None, nat_le}
-use Rattle.std.proofs.Common.{◌≡◌, ◌≢◌, ℕ, zero, suc, ◌+◌, ◌<◌, ◌≤◌, List, [], ◌∷◌, ◌++◌, length, get_or, Bool, true, false, refl, sym, ap, ◌∙◌, subst, arith, append_assoc}
-use Rattle.std.specs.List.{filter, fold, flat_map}
+use Rattle.std.proofs.Common.{◌≡◌, ℕ, ◌+◌, ◌<◌, ◌≤◌, List, [], ◌∷◌, ◌++◌, refl, sym, ap, ◌∙◌, arith}
+use Rattle.std.specs.List.{filter, fold}
 use Rattle.std.proofs.lemmas.Bool.{eqb-true, eqb-false, leb-true, leb-false}
 use Rattle.ag_model.specs.declared.record.Record.{Record}
-use Rattle.ag_model.specs.declared.record.Record.TheVariants.{Term}
-use Rattle.ag_model.specs.declared.config.Config.{Config}
 use Rattle.ag_rules.specs.Replica.{records, term_of_disk}
-use Rattle.ag_rules.specs.Group.{Group, replica, opening}
+use Rattle.ag_rules.specs.Group.{Group, replica}
 use Rattle.ag_rules.specs.Run.{Moment}
 use Rattle.ag_rules.specs.TermLog.{groups, primary_of, longer, longest, log_of_primary, term_log}
-use Rattle.ag_laws.specs.Prefix.{IsPrefixOf}
 use Rattle.ag_laws.specs.Logs.{Setting, Logs}
 use Rattle.ag_laws.specs.Disk.{IsOwn}
 use Rattle.ag_laws.specs.At.{At}
 use Rattle.ag_laws.specs.Good.{Good}
-use Rattle.ag_laws.specs.Keeps.{Keeps, Later}
+use Rattle.ag_laws.specs.Keeps.{Later}
 use Rattle.ag_laws.proofs.Prefix.{prefix_refl, longer_prefix}
 use Rattle.ag_laws.proofs.Plans.{by_bool, if_has}
 

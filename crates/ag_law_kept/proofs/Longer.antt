@@ -1,6 +1,6 @@
 -- What holds where the logs of the terms go on.
-use Rattle.std.proofs.Common.{◌≡◌, ◌≢◌, ℕ, zero, suc, ◌+◌, ◌-◌, ◌<◌, ◌≤◌, List, [], length, take, true, false, refl, sym, ap, ◌∙◌, subst, arith, length-take-le}
-use Rattle.std.specs.Prelude.{Some, None, slice_get, nat_lt}
+use Rattle.std.proofs.Common.{◌≡◌, ℕ, ◌+◌, ◌-◌, ◌<◌, ◌≤◌, List, length, take, true, false, refl, sym, ◌∙◌, subst, arith, length-take-le}
+use Rattle.std.specs.Prelude.{Some, slice_get, nat_lt}
 use Rattle.std.specs.List.{AllByRecursion}
 use Rattle.std.proofs.lemmas.Bool.{ltb-true, ltb-false}
 use Rattle.ag_model.specs.declared.record.Record.{Record}
@@ -11,7 +11,6 @@ use Rattle.ag_model.specs.declared.message.Message.{Message}
 use Rattle.ag_model.specs.declared.message.Body.{Body}
 use Rattle.ag_model.specs.declared.message.Body.TheVariants.{Hello, Resume, Block as OfBlock, Ack, PageAsk, PageGive, PageNo}
 use Rattle.ag_rules.specs.Replica.{Replica, records, end, peer, is_reverting}
-use Rattle.ag_rules.specs.Group.{Group, replica, link, has}
 use Rattle.ag_rules.specs.ResumeMessage.{waits_for}
 use Rattle.ag_rules.specs.KeptLaw.{Confirmed}
 use Rattle.ag_laws.specs.Prefix.{IsPrefixOf}
@@ -22,8 +21,8 @@ use Rattle.ag_laws.proofs.Lists.{all_map}
 use Rattle.ag_laws.proofs.Grow.{traced_longer}
 use Rattle.ag_law_kept.specs.Known.{IsKnown, AtMost}
 use Rattle.ag_law_kept.specs.Past.{Past}
-use Rattle.ag_law_kept.specs.Tells.{HelloTells, ResumeTells, BodyTells, MessageTells}
-use Rattle.ag_law_kept.specs.Holds.{Knowing, IsState, IsLeader, HasBegun, IsMember, IsTaken, IsConfirmed, Holds}
+use Rattle.ag_law_kept.specs.Tells.{BodyTells, MessageTells}
+use Rattle.ag_law_kept.specs.Holds.{Knowing, IsLeader, HasBegun, IsMember, IsTaken, IsConfirmed}
 use Rattle.ag_law_kept.proofs.Known.{known_longer, most_longer, covers_longer, get_prefix, get_within, take_is_prefix, same_beginning}
 use Rattle.ag_law_kept.proofs.World.{AreTraced, IsGrounded, no_later}
 

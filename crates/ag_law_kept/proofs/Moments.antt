@@ -1,14 +1,12 @@
 -- What holds at each moment: no member reverts, and what is known of peers is so.
-use Rattle.std.specs.Prelude.{◌≡◌, ℕ, ◌<◌, ◌≤◌, List, [], length, true}
-use Rattle.std.proofs.Common.{sym, ap, subst}
-use Rattle.ag_model.specs.declared.record.Record.{Record}
+use Rattle.std.specs.Prelude.{ℕ, ◌<◌, List, [], length}
+use Rattle.std.proofs.Common.{subst}
 use Rattle.ag_model.specs.declared.config.Config.{Config}
 use Rattle.ag_model.specs.declared.event.Event.{Event}
-use Rattle.ag_rules.specs.Replica.{Replica, end, peer}
+use Rattle.ag_rules.specs.Replica.{end, peer}
 use Rattle.ag_rules.specs.Group.{Group, replica, opening}
 use Rattle.ag_rules.specs.Run.{Moment, run}
 use Rattle.ag_rules.specs.Script.{IsScript}
-use Rattle.ag_laws.specs.Logs.{Logs}
 use Rattle.ag_laws.proofs.Prefix.{prefix_refl}
 use Rattle.ag_law_kept.specs.Known.{AtMost}
 use Rattle.ag_law_kept.specs.Holds.{IsLeader}

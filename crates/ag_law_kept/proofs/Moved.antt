@@ -1,15 +1,13 @@
 -- One replica moves, and the logs may go on.
-use Rattle.std.proofs.Common.{◌≡◌, ◌≢◌, ℕ, zero, suc, ◌+◌, ◌-◌, ◌<◌, ◌≤◌, List, [], length, take, true, false, refl, sym, ap, ◌∙◌, subst, arith, length-set, get_or-set_same}
-use Rattle.std.specs.Prelude.{Some, None, slice_get, nat_lt, get_or, ◌==◌}
+use Rattle.std.proofs.Common.{◌≡◌, ◌≢◌, ℕ, ◌+◌, ◌<◌, ◌≤◌, List, [], length, true, false, refl, sym, ap, ◌∙◌, subst, arith, length-set, get_or-set_same}
+use Rattle.std.specs.Prelude.{get_or, ◌==◌}
 use Rattle.std.specs.List.{AllByRecursion}
 use Rattle.std.proofs.lemmas.Bool.{eqb-true, eqb-false}
 use Rattle.std.proofs.lemmas.List.{get_or-set_other, nil_from_length}
 use Rattle.ag_model.specs.declared.record.Record.{Record}
-use Rattle.ag_model.specs.declared.message.Message.{Message}
 use Rattle.ag_model.specs.declared.config.Config.{Config}
-use Rattle.ag_model.specs.declared.config.Register.{Register}
 use Rattle.ag_model.specs.Starts.{last_term}
-use Rattle.ag_rules.specs.Replica.{Replica, records, end, is_reverting}
+use Rattle.ag_rules.specs.Replica.{Replica, records, is_reverting}
 use Rattle.ag_rules.specs.Group.{Group, replica, with_replica, link, has, nobody}
 use Rattle.ag_rules.specs.KeptLaw.{Confirmed}
 use Rattle.ag_laws.specs.Prefix.{IsPrefixOf}

@@ -1,17 +1,15 @@
 -- The store moves to a new term: what was known of the set is what is known of its target.
-use Rattle.std.specs.Prelude.{if◌then◌else◌, ◌==◌, not, nat_lt, Option, Some, None, ◌&&◌, ◌||◌, slice_get}
-use Rattle.std.proofs.Common.{◌≡◌, ◌≢◌, ℕ, zero, suc, ◌+◌, ◌-◌, ◌<◌, ◌≤◌, max, List, [], ◌∷◌, length, take, set, get_or, Bool, true, false, inl, inr, refl, sym, ap, ◌∙◌, subst, arith, length-set, get_or-set_same}
-use Rattle.std.specs.List.{AllByRecursion}
-use Rattle.std.proofs.lemmas.Bool.{false≢true, not-false, or_parts, and_parts, eqb-true, eqb-false, eq-eqb}
+use Rattle.std.specs.Prelude.{◌==◌, not, Some, ◌&&◌, slice_get}
+use Rattle.std.proofs.Common.{◌≡◌, ◌≢◌, ℕ, ◌+◌, ◌<◌, ◌≤◌, List, [], length, take, Bool, true, false, refl, sym, ap, ◌∙◌, subst, arith, length-set}
+use Rattle.std.proofs.lemmas.Bool.{false≢true, and_parts, eqb-true, eqb-false}
 use Rattle.std.proofs.lemmas.List.{get_or-set_other}
 use Rattle.ag_model.specs.declared.record.Record.{Record}
 use Rattle.ag_model.specs.declared.config.Register.{Register}
-use Rattle.ag_model.specs.declared.message.Message.{Message}
 use Rattle.ag_model.specs.declared.message.Body.{Body}
 use Rattle.ag_model.specs.declared.message.Body.TheVariants.{Hello, Resume, Block as OfBlock, Ack, PageAsk, PageGive, PageNo}
-use Rattle.ag_rules.specs.Replica.{Replica, Peer, records, end, peer, is_reverting, stepped_down}
+use Rattle.ag_rules.specs.Replica.{Replica, records, stepped_down}
 use Rattle.ag_rules.specs.Group.{Group, replica, with_replica, link, has, nobody}
-use Rattle.ag_rules.specs.Failover.{old_primary, group_moved}
+use Rattle.ag_rules.specs.Failover.{old_primary}
 use Rattle.ag_rules.specs.KeptLaw.{Confirmed}
 use Rattle.ag_model.specs.declared.record.Record.TheVariants.{Term}
 use Rattle.ag_laws.specs.Prefix.{IsPrefixOf}
@@ -23,7 +21,7 @@ use Rattle.ag_law_kept.specs.Known.{IsKnown}
 use Rattle.ag_law_kept.specs.Past.{Past, move}
 use Rattle.ag_law_kept.specs.Tells.{BodyTells, MessageTells}
 use Rattle.ag_law_kept.specs.Holds.{Knowing, IsState, IsLeader, HasBegun, IsMember, IsTaken, IsConfirmed, Holds}
-use Rattle.ag_law_kept.proofs.World.{AreTraced, IsGrounded, HasOwn, Acts, IsWorld}
+use Rattle.ag_law_kept.proofs.World.{IsGrounded, HasOwn, Acts, IsWorld}
 use Rattle.ag_law_kept.proofs.Longer.{Waits, messages_longer}
 use Rattle.ag_law_kept.proofs.Moved.{NewReplica, moved}
 use Rattle.ag_law_kept.proofs.Goes.{Fit, fit_of, waits_refl}

@@ -1,25 +1,23 @@
 -- What comes of an event, from the invariant of the logs and from what was remembered.
-use Rattle.std.specs.Prelude.{if◌then◌else◌, ◌==◌, not, nat_lt, nat_le, Option, Some, None, ◌&&◌, ◌||◌}
-use Rattle.std.proofs.Common.{◌≡◌, ◌≢◌, ℕ, zero, suc, ◌+◌, ◌-◌, ◌<◌, ◌≤◌, ◌^◌, List, [], ◌∷◌, ◌++◌, length, set, get_or, Bool, true, false, refl, sym, ap, ◌∙◌, subst, arith, length-set}
-use Rattle.std.specs.List.{filter, range_with_len}
-use Rattle.std.proofs.lemmas.Bool.{false≢true, not-false, and_parts, eqb-true, eqb-false, ltb-true, ltb-false, le-leb}
+use Rattle.std.specs.Prelude.{◌==◌, nat_lt, ◌&&◌, ◌||◌}
+use Rattle.std.proofs.Common.{◌≡◌, ◌≢◌, ℕ, ◌+◌, ◌<◌, ◌≤◌, List, ◌++◌, length, Bool, true, false, refl, sym, ap, ◌∙◌, subst, arith, length-set}
+use Rattle.std.proofs.lemmas.Bool.{eqb-true, eqb-false, ltb-true, ltb-false}
 use Rattle.std.proofs.lemmas.List.{get_or-set_other}
 use Rattle.ag_model.specs.declared.config.Register.{Register}
-use Rattle.ag_model.specs.declared.config.Config.{Config}
 use Rattle.ag_model.specs.declared.event.Suffix.{Suffix}
-use Rattle.ag_rules.specs.Replica.{Replica, records, is_reverting}
+use Rattle.ag_rules.specs.Replica.{Replica, is_reverting}
 use Rattle.ag_rules.specs.Group.{Group, replica, with_replica, has, nobody}
-use Rattle.ag_rules.specs.Plan.{Part, Plan, Check, here, refused, at_node, at_node_after}
+use Rattle.ag_rules.specs.Plan.{Part, Check, here, refused, at_node, at_node_after}
 use Rattle.ag_rules.specs.Cut.{cut}
-use Rattle.ag_rules.specs.Failover.{failover, failover_checks, failover_records, group_moved, old_primary, takes_over, target, moved, moved_by_force, plan_of_planned, plan_of_force, plan_of_auto, plan_to_first, targets, is_target, has_mode_auto, primary_serves, checks_of_planned, checks_of_force}
+use Rattle.ag_rules.specs.Failover.{failover, failover_checks, failover_records, group_moved, old_primary, takes_over, target}
 use Rattle.ag_rules.specs.KeptLaw.{Confirmed}
 use Rattle.ag_laws.specs.Logs.{Logs, Setting}
 use Rattle.ag_laws.specs.Good.{Good}
 use Rattle.ag_laws.specs.Keeps.{Keeps}
-use Rattle.ag_laws.proofs.Plans.{by_bool, if_has, unless_has, Passes}
+use Rattle.ag_laws.proofs.Plans.{by_bool, unless_has, Passes}
 use Rattle.ag_laws.proofs.Cuts.{cut_has}
 use Rattle.ag_law_kept.specs.Past.{Past, Meets, move}
-use Rattle.ag_law_kept.specs.Holds.{IsState, Holds}
+use Rattle.ag_law_kept.specs.Holds.{Holds}
 use Rattle.ag_law_kept.proofs.World.{IsWorld, AreGrown, world, are_grown}
 use Rattle.ag_law_kept.proofs.Goes.{Fit, fit_of, Outcome, register_posted}
 use Rattle.ag_law_kept.proofs.Calm.{same_calm}

@@ -1,15 +1,15 @@
 -- What holds at the opening.
-use Rattle.std.specs.Prelude.{if◌then◌else◌, ◌==◌, Option, Some, None, slice_get, nat_lt}
-use Rattle.std.proofs.Common.{◌≡◌, ◌≢◌, ℕ, zero, suc, ◌+◌, ◌*◌, ◌/◌, ◌%◌, ◌^◌, ◌<◌, ◌≤◌, List, [], ◌∷◌, length, replicate, map, get_or, Bool, true, false, refl, sym, ap, ◌∙◌, subst, arith, pow_mono}
+use Rattle.std.specs.Prelude.{if◌then◌else◌, ◌==◌, None, nat_lt}
+use Rattle.std.proofs.Common.{◌≡◌, ℕ, zero, suc, ◌+◌, ◌/◌, ◌%◌, ◌^◌, ◌<◌, ◌≤◌, List, [], ◌∷◌, length, replicate, map, get_or, Bool, true, false, refl, sym, ap, ◌∙◌, subst, arith, pow_mono}
 use Rattle.std.specs.List.{AllByRecursion}
-use Rattle.std.proofs.lemmas.Bool.{false≢true, eqb-true, eqb-false, ltb-true, ltb-false}
+use Rattle.std.proofs.lemmas.Bool.{false≢true, eqb-true, ltb-true, ltb-false}
 use Rattle.std.proofs.lemmas.List.{length-map}
 use Rattle.ag_model.specs.declared.record.Record.{Record}
 use Rattle.ag_model.specs.declared.record.Record.TheVariants.{Term}
 use Rattle.ag_model.specs.declared.message.Message.{Message}
 use Rattle.ag_model.specs.declared.config.Config.{Config}
 use Rattle.ag_model.specs.declared.config.Mode.{Mode}
-use Rattle.ag_rules.specs.Replica.{Replica, Peer, records, peer, no_peer, is_reverting}
+use Rattle.ag_rules.specs.Replica.{Replica, records, no_peer, is_reverting}
 use Rattle.ag_rules.specs.Group.{replica, has, opening, opening_replica, opening_replicas, opening_peers, synced_at_opening, waited_for, is_waited_for, nobody}
 use Rattle.ag_laws.specs.First.{first_logs, first_setting}
 use Rattle.ag_laws.proofs.Plans.{by_bool, if_has}
@@ -18,7 +18,7 @@ use Rattle.ag_laws.specs.Prefix.{IsPrefixOf}
 use Rattle.ag_law_kept.specs.Known.{IsKnown, AtMost}
 use Rattle.ag_law_kept.specs.Past.{Past}
 use Rattle.ag_law_kept.specs.Tells.{MessageTells}
-use Rattle.ag_law_kept.specs.Holds.{Knowing, IsState, IsLeader, IsMember, Holds}
+use Rattle.ag_law_kept.specs.Holds.{IsLeader, IsMember, Holds}
 use Rattle.ag_law_kept.proofs.Known.{most_length, nil_prefix, known_none, known_self}
 use Rattle.ag_law_kept.proofs.Sets.{none_member, bit, bit_more, bit_zero, pow_more}
 use Rattle.ag_law_kept.proofs.Told.{no_wait}

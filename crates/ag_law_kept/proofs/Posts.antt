@@ -1,8 +1,7 @@
 -- Messages are sent, and taken.
-use Rattle.std.proofs.Common.{◌≡◌, ◌≢◌, ℕ, ◌-◌, ◌<◌, ◌≤◌, List, [], ◌∷◌, ◌++◌, length, take, drop, set, get_or, refl, sym, subst}
+use Rattle.std.proofs.Common.{ℕ, ◌-◌, List, [], ◌∷◌, ◌++◌, take, drop, set, get_or}
 use Rattle.std.specs.List.{AllByRecursion}
 use Rattle.ag_model.specs.declared.message.Message.{Message}
-use Rattle.ag_rules.specs.Replica.{Replica}
 use Rattle.ag_rules.specs.Group.{Group, replica, link, with_link}
 use Rattle.ag_rules.specs.Plan.{Posting, posted}
 use Rattle.ag_rules.specs.DeliverEvent.{taken}

@@ -1,13 +1,12 @@
 -- Events that change a set of the store leave its term.
 use Rattle.std.specs.Prelude.{◌≡◌, ℕ}
-use Rattle.std.proofs.Common.{List, [], refl, ap}
+use Rattle.std.proofs.Common.{[], refl, ap}
 use Rattle.ag_model.specs.declared.config.Register.{Register}
 use Rattle.ag_model.specs.declared.event.Suffix.{Suffix}
-use Rattle.ag_model.specs.declared.answer.Answer.{Answer}
 use Rattle.ag_model.specs.declared.answer.Answer.TheVariants.{Resumed, Synchronised, TimedOut}
 use Rattle.ag_rules.specs.Replica.{Replica}
 use Rattle.ag_rules.specs.Group.{Group, replica, with_member, without_member}
-use Rattle.ag_rules.specs.Plan.{Part, Check, Here, here, at_node, at_node_after, at_once, refused, unless}
+use Rattle.ag_rules.specs.Plan.{Here, here, at_node_after, at_once, refused}
 use Rattle.ag_rules.specs.Cut.{cut}
 use Rattle.ag_rules.specs.CutEvent.{told}
 use Rattle.ag_rules.specs.AckEvent.{ack_part, checks_of_ack, late}

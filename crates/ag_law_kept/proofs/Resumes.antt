@@ -1,9 +1,9 @@
 -- A Resume comes: the replica keeps all that may be known of it, and a member of the set doesn't begin to revert.
-use Rattle.std.specs.Prelude.{if◌then◌else◌, ◌==◌, not, nat_le, Option, None, ◌&&◌, ◌||◌}
-use Rattle.std.proofs.Common.{◌≡◌, ◌≢◌, ℕ, zero, suc, ◌+◌, ◌<◌, ◌≤◌, min, max, List, [], ◌∷◌, length, take, drop, map, Bool, true, false, inl, inr, ◌⊎◌, refl, sym, ap, ◌∙◌, subst, arith, length-take-le, take_all}
-use Rattle.std.specs.List.{AllByRecursion, filter, list_any}
-use Rattle.std.proofs.lemmas.Bool.{false≢true, not-false, or_parts, and_parts, eqb-true, eqb-false, eq-eqb}
-use Rattle.std.proofs.lemmas.List.{drop_all, nil_from_length}
+use Rattle.std.specs.Prelude.{◌==◌, not, nat_le, None, ◌&&◌, ◌||◌}
+use Rattle.std.proofs.Common.{◌≡◌, ◌≢◌, ℕ, zero, suc, ◌<◌, ◌≤◌, List, [], ◌∷◌, length, take, drop, map, true, false, inl, inr, ◌⊎◌, refl, sym, ap, ◌∙◌, subst, arith, length-take-le, take_all}
+use Rattle.std.specs.List.{filter, list_any}
+use Rattle.std.proofs.lemmas.Bool.{false≢true, not-false, or_parts, and_parts, eqb-true, eqb-false}
+use Rattle.std.proofs.lemmas.List.{drop_all}
 use Rattle.ag_model.specs.declared.record.Record.{Record}
 use Rattle.ag_model.specs.declared.record.Log.{Log}
 use Rattle.ag_model.specs.declared.config.Ticket.{Ticket}
@@ -13,28 +13,26 @@ use Rattle.ag_model.specs.Rows.{contains, page_numbers, touches}
 use Rattle.ag_model.specs.Starts.{last_term}
 use Rattle.ag_rules.specs.Replica.{Replica, Kept, Master, records, end, is_reverting, is_foreign, fallen, term_of_disk, clean_page, all_at}
 use Rattle.ag_rules.specs.Group.{Group, replica, with_replica, has}
-use Rattle.ag_rules.specs.Plan.{Check, Part, Plan, Write, Batch, Master_write, here, at_node, posted, written, all_written, each_synced, writing}
+use Rattle.ag_rules.specs.Plan.{Check, Part, Master_write, here, at_node, written, all_written, each_synced}
 use Rattle.ag_rules.specs.Cut.{cut}
-use Rattle.ag_rules.specs.ResumeMessage.{resume_message_part, checks_of_resume_message, stays, follows_from, reverts_from, goes_on, changes_log, resumes, cuts, master_at, reverting_master, lowered, page_in_term, foreign_from, waits_for, accepting}
+use Rattle.ag_rules.specs.ResumeMessage.{resume_message_part, checks_of_resume_message, stays, follows_from, reverts_from, goes_on, changes_log, master_at, reverting_master, lowered, page_in_term, foreign_from, waits_for, accepting}
 use Rattle.ag_rules.specs.KeptLaw.{Confirmed}
 use Rattle.ag_laws.specs.Prefix.{IsPrefixOf}
 use Rattle.ag_laws.specs.Logs.{Logs}
 use Rattle.ag_laws.specs.Fits.{IsAnswered}
-use Rattle.ag_laws.proofs.Prefix.{prefix_refl, take_prefix, prefix_length}
+use Rattle.ag_laws.proofs.Prefix.{prefix_refl, take_prefix}
 use Rattle.ag_laws.proofs.Plans.{by_bool, if_has, unless_has}
 use Rattle.ag_laws.proofs.Disks.{SameCore, core_refl, core_trans}
-use Rattle.ag_laws.proofs.Steps.{IsBatch}
 use Rattle.ag_laws.proofs.Cuts.{cut_has}
-use Rattle.ag_law_kept.specs.Known.{IsKnown, AtMost}
+use Rattle.ag_law_kept.specs.Known.{AtMost}
 use Rattle.ag_law_kept.specs.Past.{Past}
 use Rattle.ag_law_kept.specs.Tells.{ResumeTells}
-use Rattle.ag_law_kept.specs.Holds.{Knowing, IsSaved, IsState, IsMember, Holds}
-use Rattle.ag_law_kept.proofs.Known.{most_longer, nil_prefix, take_is_prefix}
-use Rattle.ag_law_kept.proofs.World.{AreTraced, IsGrounded, IsWorld, AreGrown}
-use Rattle.ag_law_kept.proofs.Moved.{NewReplica}
+use Rattle.ag_law_kept.specs.Holds.{IsSaved, Holds}
+use Rattle.ag_law_kept.proofs.Known.{most_longer, nil_prefix}
+use Rattle.ag_law_kept.proofs.World.{IsWorld, AreGrown}
 use Rattle.ag_law_kept.proofs.Told.{no_wait}
 use Rattle.ag_law_kept.proofs.Stops.{stop_has, fail_has}
-use Rattle.ag_law_kept.proofs.Goes.{DiskGoes, disk_core, ReplicaGoes, Fit, fit_of, Outcome, sent_holds, fallen_holds}
+use Rattle.ag_law_kept.proofs.Goes.{disk_core, Fit, fit_of, Outcome, sent_holds, fallen_holds}
 use Rattle.ag_law_kept.proofs.Calm.{disk_refl, same_calm}
 use Rattle.ag_law_kept.proofs.Leads.{cut_calm}
 use Rattle.ag_law_kept.proofs.Foreign.{Passing, some_passes, passing_some, kept_inside, none_pass}

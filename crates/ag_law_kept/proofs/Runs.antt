@@ -1,19 +1,18 @@
 -- From events to runs.
-use Rattle.std.specs.Prelude.{if◌then◌else◌, ◌==◌, Option, Some, None, ◌||◌}
-use Rattle.std.proofs.Common.{◌≡◌, ◌≢◌, ℕ, zero, suc, ◌+◌, ◌<◌, ◌≤◌, List, [], ◌∷◌, ◌++◌, length, get_or, Bool, true, false, refl, sym, ap, ◌∙◌, subst, arith, append_assoc, append-nil}
-use Rattle.std.specs.List.{AllByRecursion, filter, fold, flat_map, list_any}
+use Rattle.std.specs.Prelude.{◌==◌, Option, Some, None, ◌||◌}
+use Rattle.std.proofs.Common.{◌≡◌, ℕ, ◌<◌, List, [], ◌∷◌, ◌++◌, length, Bool, true, false, refl, sym, ap, ◌∙◌, subst, arith, append_assoc, append-nil}
+use Rattle.std.specs.List.{fold, flat_map, list_any}
 use Rattle.std.proofs.lemmas.Bool.{eqb-true, eqb-false}
 use Rattle.std.proofs.lemmas.List.Folds.{list_any-append}
-use Rattle.ag_model.specs.declared.record.Record.{Record}
 use Rattle.ag_model.specs.declared.record.Record.TheVariants.{Term}
 use Rattle.ag_model.specs.declared.config.Config.{Config}
 use Rattle.ag_model.specs.declared.event.Event.{Event}
-use Rattle.ag_rules.specs.Replica.{records, end, peer, is_reverting}
-use Rattle.ag_rules.specs.Group.{Group, replica, opening, has}
+use Rattle.ag_rules.specs.Replica.{records}
+use Rattle.ag_rules.specs.Group.{Group, replica, opening}
 use Rattle.ag_rules.specs.Next.{done}
-use Rattle.ag_rules.specs.Run.{Moment, moment, moments_from, run}
+use Rattle.ag_rules.specs.Run.{Moment, moment, moments_from}
 use Rattle.ag_rules.specs.Script.{IsEvent, IsScript}
-use Rattle.ag_rules.specs.TermLog.{groups, primary_of, longer, longest, term_log}
+use Rattle.ag_rules.specs.TermLog.{groups, longer, longest}
 use Rattle.ag_rules.specs.KeptLaw.{Confirmed, confirmed_at, confirmed_in, is_safe_into}
 use Rattle.ag_laws.specs.Logs.{Setting, Logs}
 use Rattle.ag_laws.specs.Good.{Good}
@@ -24,7 +23,7 @@ use Rattle.ag_laws.proofs.Events.{next_keeps}
 use Rattle.ag_laws.proofs.Opening.{opening_good}
 use Rattle.ag_law_kept.specs.Past.{Past}
 use Rattle.ag_law_kept.specs.Holds.{Holds}
-use Rattle.ag_law_kept.specs.Laws.{NoMemberReverts, PeersAreKnown, AtEach}
+use Rattle.ag_law_kept.specs.Laws.{AtEach}
 use Rattle.ag_law_kept.proofs.Nexts.{Remembers, Next}
 use Rattle.ag_law_kept.proofs.Steps.{next_event}
 use Rattle.ag_law_kept.proofs.Opens.{first_past, opening_remembers, opening_holds, IsThere, there_first}

@@ -1,9 +1,8 @@
 -- Sets of replicas with one more member, and with one less.
-use Rattle.std.proofs.Common.{◌≡◌, ◌≢◌, ℕ, zero, suc, ◌+◌, ◌-◌, ◌*◌, ◌/◌, ◌%◌, ◌^◌, ◌≤◌, Bool, true, false, inl, inr, ◌⊎◌, refl, sym, ap, ◌∙◌, subst, arith, pow-suc, shr-shr, div-one, pow_pos}
-use Rattle.std.specs.Prelude.{◌==◌}
-use Rattle.std.proofs.lemmas.Bool.{false≢true, eqb-true, eqb-false, eq-eqb}
+use Rattle.std.proofs.Common.{◌≡◌, ℕ, zero, suc, ◌+◌, ◌-◌, ◌*◌, ◌/◌, ◌%◌, ◌^◌, true, inl, inr, ◌⊎◌, refl, sym, ap, ◌∙◌, arith, pow-suc, shr-shr, div-one}
+use Rattle.std.proofs.lemmas.Bool.{eqb-true, eqb-false, eq-eqb}
 use Rattle.ag_rules.specs.Group.{has, with_member, without_member}
-use Rattle.ag_laws.proofs.Plans.{by_bool, if_has}
+use Rattle.ag_laws.proofs.Plans.{if_has}
 
 -- the bit of a replica
 abbrev pub bit : ℕ → ℕ → ℕ

@@ -1,17 +1,15 @@
 -- Each event keeps what holds, and adds what it confirms.
-use Rattle.std.proofs.Common.{◌≡◌, ◌≢◌, ℕ, ◌<◌, ◌≤◌, List, [], ◌∷◌, ◌++◌, length, Bool, true, false, inl, inr, ◌⊎◌, refl, sym, ap, ◌∙◌, subst, arith, append-nil}
+use Rattle.std.proofs.Common.{◌≡◌, ℕ, List, [], ◌++◌, true, false, refl, sym, ap, ◌∙◌, subst, arith, append-nil}
 use Rattle.ag_model.specs.declared.config.Register.{Register}
 use Rattle.ag_model.specs.declared.event.Suffix.{Suffix}
 use Rattle.ag_model.specs.declared.event.Who.{Who}
-use Rattle.ag_model.specs.declared.answer.Answer.{Answer}
 use Rattle.ag_model.specs.declared.value.Change.TheVariants.{Put as PutChange, Del as DelChange}
 use Rattle.ag_model.specs.declared.event.Event.{Event}
 use Rattle.ag_model.specs.declared.event.Event.TheVariants.{Begin, Get, Put, Del, Commit, Rollback, Set, Trim, Harden, Ack, Send, Deliver, Repeat, Lose, Apply, Raise, Redo, Read, Snap, View, Close, Report, Flush, Crash, Start, Spoil, Unread, Ask, Suspects, Page, Sectors, Status, Cut, Mend, Join, Resume, Sync, Timeout, Planned, Auto, Force, Finish}
-use Rattle.ag_rules.specs.Replica.{Replica}
 use Rattle.ag_rules.specs.Group.{Group, replica, is_full}
-use Rattle.ag_rules.specs.Plan.{Part, Plan, Batch, here, at_node, unless}
+use Rattle.ag_rules.specs.Plan.{Part, Plan, here, at_node}
 use Rattle.ag_rules.specs.Cut.{cut}
-use Rattle.ag_rules.specs.Next.{named, at_session, token, plan_of, suffix_of, done, is_full_to_followed}
+use Rattle.ag_rules.specs.Next.{named, at_session, token, plan_of, suffix_of, done}
 use Rattle.ag_rules.specs.Script.{IsEvent, IsWho}
 use Rattle.ag_rules.specs.AckEvent.{ack_part}
 use Rattle.ag_rules.specs.JoinEvent.{join_part}
@@ -19,7 +17,6 @@ use Rattle.ag_rules.specs.KeptLaw.{Confirmed, confirmed_by, confirmed_at}
 use Rattle.ag_laws.specs.Logs.{Logs, Setting}
 use Rattle.ag_laws.specs.Good.{Good}
 use Rattle.ag_laws.specs.Keeps.{Keeps}
-use Rattle.ag_laws.proofs.Plans.{unless_has}
 use Rattle.ag_laws.proofs.Events.{named_there}
 use Rattle.ag_law_kept.specs.Past.{Past}
 use Rattle.ag_law_kept.specs.Holds.{Holds}

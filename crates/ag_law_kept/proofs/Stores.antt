@@ -1,37 +1,33 @@
 -- Events that change a set of the store: `resume`, `sync` and `timeout`.
-use Rattle.std.specs.Prelude.{if◌then◌else◌, ◌==◌, not, nat_lt, Option, Some, None, ◌&&◌, ◌||◌, slice_get}
-use Rattle.std.proofs.Common.{◌≡◌, ◌≢◌, ℕ, zero, suc, ◌+◌, ◌-◌, ◌<◌, ◌≤◌, max, List, [], ◌∷◌, length, set, get_or, Bool, true, false, inl, inr, refl, sym, ap, ◌∙◌, subst, arith, length-set, set-set, get_or-set_same}
-use Rattle.std.specs.List.{AllByRecursion}
-use Rattle.std.proofs.lemmas.Bool.{false≢true, not-false, or_parts, eqb-true, eqb-false, ltb-false}
+use Rattle.std.specs.Prelude.{◌==◌, not, Option, Some, slice_get}
+use Rattle.std.proofs.Common.{◌≡◌, ◌≢◌, ℕ, ◌+◌, ◌<◌, ◌≤◌, List, length, set, true, false, inl, inr, refl, sym, ap, ◌∙◌, subst, arith, length-set, set-set, get_or-set_same}
+use Rattle.std.proofs.lemmas.Bool.{not-false, or_parts, ltb-false}
 use Rattle.std.proofs.lemmas.List.{get_or-set_other}
-use Rattle.ag_model.specs.declared.record.Record.{Record}
 use Rattle.ag_model.specs.declared.record.Record.TheVariants.{Term}
 use Rattle.ag_model.specs.declared.config.Register.{Register}
 use Rattle.ag_model.specs.declared.event.Suffix.{Suffix}
-use Rattle.ag_model.specs.declared.answer.Answer.{Answer}
 use Rattle.ag_model.specs.declared.answer.Answer.TheVariants.{Resumed, Synchronised, TimedOut}
-use Rattle.ag_model.specs.Starts.{last_term}
 use Rattle.ag_model.specs.declared.config.Ticket.{Ticket}
 use Rattle.ag_rules.specs.ResumeMessage.{waits_for}
 use Rattle.ag_laws.specs.Prefix.{IsPrefixOf}
 use Rattle.ag_rules.specs.Replica.{Replica, Kept, Peer, records, end, peer, no_peer, is_reverting}
 use Rattle.ag_rules.specs.Group.{Group, replica, with_replica, link, has, nobody, with_member, without_member}
-use Rattle.ag_rules.specs.Plan.{Part, Plan, here, at_once, at_node, at_node_after}
+use Rattle.ag_rules.specs.Plan.{Plan, here, at_once, at_node, at_node_after}
 use Rattle.ag_rules.specs.Cut.{cut}
 use Rattle.ag_rules.specs.CutEvent.{told}
 use Rattle.ag_rules.specs.ResumeEvent.{plan_of_resume, checks_of_resume, with_resumed}
-use Rattle.ag_rules.specs.SyncEvent.{plan_of_sync, checks_of_sync, with_synced, plan_of_timeout, checks_of_timeout, without_synced, disconnected, is_async}
+use Rattle.ag_rules.specs.SyncEvent.{plan_of_sync, checks_of_sync, with_synced, plan_of_timeout, checks_of_timeout, without_synced, disconnected}
 use Rattle.ag_rules.specs.KeptLaw.{Confirmed}
 use Rattle.ag_laws.specs.Logs.{Logs}
 use Rattle.ag_laws.proofs.Prefix.{prefix_refl}
-use Rattle.ag_laws.proofs.Plans.{if_has, unless_has}
+use Rattle.ag_laws.proofs.Plans.{unless_has}
 use Rattle.ag_laws.proofs.Lists.{all_map, at_set, at_set_there}
 use Rattle.ag_laws.proofs.BlockKeeps.{same_term}
 use Rattle.ag_law_kept.specs.Known.{IsKnown}
 use Rattle.ag_law_kept.specs.Past.{Past}
 use Rattle.ag_law_kept.specs.Holds.{Knowing, IsState, IsLeader, HasBegun, IsMember, IsTaken, IsConfirmed, Holds}
 use Rattle.ag_law_kept.proofs.Known.{known_less, get_within, has_term}
-use Rattle.ag_law_kept.proofs.World.{AreTraced, IsGrounded, HasOwn, Acts, IsWorld, AreGrown}
+use Rattle.ag_law_kept.proofs.World.{IsGrounded, HasOwn, Acts, IsWorld, AreGrown}
 use Rattle.ag_law_kept.proofs.Longer.{Waits, messages_longer}
 use Rattle.ag_law_kept.proofs.Moved.{NewReplica, moved, fresh_of, world_like}
 use Rattle.ag_law_kept.proofs.Goes.{Fit, fit_of, Outcome, LeadsOn, leader_on, new_replica, waits_refl}

@@ -1,16 +1,13 @@
 -- A replica that waits for no ticket tells its log, and joins.
-use Rattle.std.specs.Prelude.{if◌then◌else◌}
-use Rattle.std.proofs.Common.{◌≡◌, ◌≢◌, ℕ, ◌+◌, ◌<◌, ◌≤◌, max, List, [], length, take, Bool, true, false, refl, sym, ap, ◌∙◌, subst, arith}
+use Rattle.std.proofs.Common.{◌≡◌, ℕ, ◌+◌, ◌<◌, ◌≤◌, max, List, [], length, take, true, refl, sym, ap, ◌∙◌, subst, arith}
 use Rattle.std.specs.Prelude.{Option, Some, None, slice_get, ◌==◌, ◌&&◌}
-use Rattle.std.specs.List.{AllByRecursion}
 use Rattle.std.proofs.lemmas.Bool.{false≢true, and_parts, eqb-true}
 use Rattle.ag_model.specs.declared.record.Record.{Record}
 use Rattle.ag_model.specs.declared.record.Record.TheVariants.{Term}
 use Rattle.ag_model.specs.declared.config.Ticket.{Ticket}
-use Rattle.ag_model.specs.declared.message.Message.{Message}
 use Rattle.ag_model.specs.declared.message.Body.{Body}
 use Rattle.ag_model.specs.declared.message.Body.TheVariants.{Hello, Resume, Block as OfBlock, Ack, PageAsk, PageGive, PageNo}
-use Rattle.ag_rules.specs.Replica.{Replica, records, end, peer}
+use Rattle.ag_rules.specs.Replica.{Replica, records, end}
 use Rattle.ag_rules.specs.Group.{Group, replica, link}
 use Rattle.ag_rules.specs.ResumeMessage.{waits_for}
 use Rattle.ag_rules.specs.KeptLaw.{Confirmed}
@@ -24,7 +21,7 @@ use Rattle.ag_law_kept.specs.Past.{Past, tell, ask}
 use Rattle.ag_law_kept.specs.Tells.{BodyTells, MessageTells}
 use Rattle.ag_law_kept.specs.Holds.{Knowing, IsState, IsLeader, HasBegun, IsMember, IsTaken, IsConfirmed, Holds}
 use Rattle.ag_law_kept.proofs.Known.{known_covered, covers_refl, covers_trans, covers_prefix, covers_here, most_length}
-use Rattle.ag_law_kept.proofs.World.{IsGrounded, IsWorld}
+use Rattle.ag_law_kept.proofs.World.{IsWorld}
 
 -- no ticket is waited for
 pub no_wait : (o : Option Ticket) (ticket : Ticket) → o ≡ None → waits_for o ticket ≡ true → ⊥

@@ -1,5 +1,5 @@
 -- What is used of the logs of the terms, and of each replica beside them.
-use Rattle.std.proofs.Common.{◌≡◌, ◌≢◌, ℕ, zero, suc, ◌+◌, ◌<◌, ◌≤◌, max, List, [], length, take, true, false, refl, sym, ap, ◌∙◌, subst, arith, take_all}
+use Rattle.std.proofs.Common.{◌≡◌, ◌≢◌, ℕ, ◌+◌, ◌<◌, ◌≤◌, List, [], length, take, true, false, sym, ap, ◌∙◌, subst, arith, take_all}
 use Rattle.std.specs.Prelude.{Some, None, slice_get}
 use Rattle.ag_model.specs.declared.record.Record.{Record}
 use Rattle.ag_model.specs.declared.record.Record.TheVariants.{Term}
@@ -9,14 +9,13 @@ use Rattle.ag_rules.specs.Replica.{Replica, records, term_of_disk}
 use Rattle.ag_rules.specs.Group.{Group, replica}
 use Rattle.ag_laws.specs.Prefix.{IsPrefixOf}
 use Rattle.ag_laws.specs.Logs.{Logs, Setting, IsTraced, AreLogs}
-use Rattle.ag_laws.specs.Disk.{IsOwn, KeptAt}
-use Rattle.ag_laws.specs.At.{At, Leads}
+use Rattle.ag_laws.specs.Disk.{IsOwn}
+use Rattle.ag_laws.specs.At.{At}
 use Rattle.ag_laws.specs.Good.{Good}
-use Rattle.ag_laws.specs.Keeps.{Keeps, Later}
-use Rattle.ag_laws.proofs.Prefix.{prefix_trans, prefix_length, take_prefix}
-use Rattle.ag_laws.proofs.Plans.{by_bool}
+use Rattle.ag_laws.specs.Keeps.{Later}
+use Rattle.ag_laws.proofs.Prefix.{prefix_trans, take_prefix}
 use Rattle.ag_law_kept.specs.Past.{Past, Meets}
-use Rattle.ag_law_kept.proofs.Known.{last_at_term, get_within, take_of_prefix}
+use Rattle.ag_law_kept.proofs.Known.{last_at_term}
 
 -- a replica that the store made primary of its term has the whole log of the term, with the term's own record
 pub record HasOwn (logs : Logs) (r : Replica) : Type 0 where
