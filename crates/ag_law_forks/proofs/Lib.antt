@@ -1,1 +1,2 @@
 pub mod Forks
+mod Examples

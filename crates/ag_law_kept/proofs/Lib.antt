@@ -28,3 +28,4 @@ pub mod Runs
 pub mod Moments
 pub mod Chains
 pub mod Kept
+mod Examples
