@@ -21,7 +21,7 @@ use Rattle.ag_law_kept.specs.Past.{Past}
 use Rattle.ag_law_kept.specs.Holds.{Holds}
 use Rattle.ag_law_kept.proofs.World.{IsWorld, AreGrown, world}
 use Rattle.ag_law_kept.proofs.Moved.{world_like}
-use Rattle.ag_law_kept.proofs.Goes.{Fit, fit_of, Outcome, leader_on, goes_holds, fallen_holds, disk_core, DiskGoes, register_posted}
+use Rattle.ag_law_kept.proofs.Goes.{fit_of, Outcome, leader_on, goes_holds, fallen_holds, disk_core, DiskGoes, register_posted}
 use Rattle.ag_law_kept.proofs.Stops.{stop_has, fail_has}
 use Rattle.ag_law_kept.proofs.Calm.{PartCalm, same_calm}
 use Rattle.ag_law_kept.proofs.Leads.{PartFits, cut_fits, cut_calm}
@@ -56,12 +56,6 @@ module _ (past : Past) (cs : List Confirmed) (s : Setting) (logs : Logs) (g : Gr
   -- what comes of a plan
   abbrev pub Comes2 : Suffix → Plan → Type 0
   Comes2 suffix p = (k : Keeps s logs g (cut suffix p).after) → Next past cs k.setting k.grown g (cut suffix p).after
-
-  pub w : IsWorld past logs g
-  w = world past s logs g r.meets good
-
-  pub fit : (n : ℕ) → Fit g.config.pages (replica g n)
-  fit n = fit_of past n g.config.pages (replica g n) (h.states n)
 
   -- an event at one replica
   pub calm : (n : ℕ) (suffix : Suffix) (part : Part) → n < length g.replicas → PartCalm g.config.pages (replica g n) part → Comes2 suffix (at_node g n part)

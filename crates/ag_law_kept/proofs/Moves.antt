@@ -135,9 +135,6 @@ module _ (past : Past) (cs : List Confirmed) (logs : Logs) (g : Group) (w : IsWo
 
   -- the store moves to the next term
   module _ (n : ℕ) (store : Register) (cuts : AllCut g n) (there : n < length g.replicas) (term : store.term ≡ g.register.term + 1) (primary : store.primary ≡ n) (empty : store.synced ≡ 0) where
-    pub past_moved : Past
-    past_moved = move past (g.register.term + 1) n (has g.register.synced n)
-
     target_before : (t : ℕ) → t ≤ g.register.term → (move past (g.register.term + 1) n (has g.register.synced n)).target t ≡ past.target t
     target_before t low = target_other past (g.register.term + 1) n (has g.register.synced n) t (λ e. omega (arith, low, e))
 

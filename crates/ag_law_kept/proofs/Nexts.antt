@@ -13,7 +13,7 @@ use Rattle.ag_rules.specs.Failover.{failover, failover_checks, failover_records,
 use Rattle.ag_rules.specs.KeptLaw.{Confirmed}
 use Rattle.ag_laws.specs.Logs.{Logs, Setting}
 use Rattle.ag_laws.specs.Good.{Good}
-use Rattle.ag_laws.specs.Keeps.{Keeps}
+use Rattle.ag_laws.specs.Keeps.{Keeps, Later}
 use Rattle.ag_laws.proofs.Plans.{by_bool, unless_has, Passes}
 use Rattle.ag_laws.proofs.Cuts.{cut_has}
 use Rattle.ag_law_kept.specs.Past.{Past, Meets, move}
@@ -111,33 +111,40 @@ failover_next past cs s logs g n store checks suffix good r h there term primary
         let same : replica g2 n ≡ replica g n = get_or-set_other g.replicas p n (old_primary (replica g p)) nobody can.apart in
         let fits : PartFits past2 logs store g.config.pages n (replica g2 n) new = subst (λ (x : Replica). PartFits past2 logs store g.config.pages n x new) (sym same) (takes_over_fits past2 logs n (record (here g n) { store = store }) (failover_records (here g n) (replica g n)) (replica g n) f can.normal) in
         let at : after.register ≡ store = cut_register g2 n new suffix in
-        let high : k.setting.now ≡ g.register.term + 1 = sym k.good.now ∙ ap (λ (x : Register). x.term) at ∙ term in
-        let before : s.now ≡ g.register.term = sym good.now in
-        let meets : Meets past2 k.setting = λ t low.
-        by_term (past2.target t ≡ k.setting.leader t) t (g.register.term + 1)
-        (λ e. ap past2.target e ∙ target_now past (g.register.term + 1) n (has g.register.synced n) ∙ sym primary ∙ ap (λ (x : Register). x.primary) (sym at) ∙ k.good.primary ∙ ap k.setting.leader (high ∙ sym e))
-        (λ e. target_other past (g.register.term + 1) n (has g.register.synced n) t e ∙ r.meets t (omega (arith, low, high, e, before)) ∙ k.later.leader t (omega (arith, low, high, e, before))) in
-        let o : Outcome past2 cs k.grown after =
-        cut_fits past2 cs logs k.grown g2 n new suffix world2 holds2 there1 fits (world past2 k.setting k.grown after meets k.good) (are_grown past2 s k.setting logs k.grown after meets k.good.now k.later) in
-        record {
-          now = o.now;
-          holds = o.holds;
-          remembers = record {
-            meets = λ t low. sym (o.target t) ∙ meets t low;
-            ahead = λ t low. sym (o.safe t) ∙ safe_other past (g.register.term + 1) n (has g.register.synced n) t (λ e. omega (arith, low, e, ap (λ (x : Register). x.term) at, term)) ∙ r.ahead t (omega (arith, low, ap (λ (x : Register). x.term) at, term));
-          };
-          safe = λ t. sym (o.safe t) ∙ by_term (past2.safe t ≡ (past.safe t || safely t g after)) t (g.register.term + 1)
-              (λ e.
-              let now_term : after.register.term ≡ t = ap (λ (x : Register). x.term) at ∙ term ∙ sym e in
-              ap past2.safe e ∙ safe_now past (g.register.term + 1) n (has g.register.synced n)
-              ∙ ap (has g.register.synced) (sym primary ∙ ap (λ (x : Register). x.primary) (sym at))
-              ∙ sym (ap (λ b. b && ((after.register.term == t) && has g.register.synced after.register.primary)) (lt_yes g.register.term t (omega (arith, e))) ∙ ap (λ b. b && has g.register.synced after.register.primary) (eq_yes after.register.term t now_term))
-              ∙ ap (λ b. b || safely t g after) (sym (r.ahead t (omega (arith, e)))))
-              (λ e. safe_other past (g.register.term + 1) n (has g.register.synced n) t e ∙ or_none (past.safe t) (safely t g after) (not_safely t g after (λ q. absurd (e (sym q ∙ ap (λ (x : Register). x.term) at ∙ term)))));
-        }
+        let meets : Meets past2 k.setting = meets_moved k.setting k.grown after at k.good k.later in
+        moved_next k.setting k.grown after at meets (cut_fits past2 cs logs k.grown g2 n new suffix world2 holds2 there1 fits (world past2 k.setting k.grown after meets k.good) (are_grown past2 s k.setting logs k.grown after meets k.good.now k.later))
       where
-        lt_yes : (a b : ℕ) → a < b → nat_lt a b ≡ true
-        lt_yes a b q = by_bool (nat_lt a b) (λ v. nat_lt a b ≡ v → nat_lt a b ≡ true) (λ _ e. e) (λ _ e. absurd (omega (arith, q, ltb-false a b e))) refl
+        -- the targets after the store moved
+        meets_moved : (s2 : Setting) (grown : Logs) (after : Group) → after.register ≡ store → Good s2 grown after → Later s logs s2 grown after → Meets (move past (g.register.term + 1) n (has g.register.synced n)) s2
+        meets_moved s2 grown after at good2 later t low =
+            let high : s2.now ≡ g.register.term + 1 = sym good2.now ∙ ap (λ (x : Register). x.term) at ∙ term in
+            by_term ((move past (g.register.term + 1) n (has g.register.synced n)).target t ≡ s2.leader t) t (g.register.term + 1)
+            (λ e. ap (move past (g.register.term + 1) n (has g.register.synced n)).target e ∙ target_now past (g.register.term + 1) n (has g.register.synced n) ∙ sym primary ∙ ap (λ (x : Register). x.primary) (sym at) ∙ good2.primary ∙ ap s2.leader (high ∙ sym e))
+            (λ e. target_other past (g.register.term + 1) n (has g.register.synced n) t e ∙ r.meets t (omega (arith, low, high, e, good.now)) ∙ later.leader t (omega (arith, low, high, e, good.now)))
 
-        eq_yes : (a b : ℕ) → a ≡ b → (a == b) ≡ true
-        eq_yes a b q = by_bool (a == b) (λ v. (a == b) ≡ v → (a == b) ≡ true) (λ _ e. e) (λ _ e. absurd (eqb-false a b e q)) refl
+        -- what is remembered after the store moved
+        moved_next : (s2 : Setting) (grown : Logs) (after : Group) → after.register ≡ store → Meets (move past (g.register.term + 1) n (has g.register.synced n)) s2 → Outcome (move past (g.register.term + 1) n (has g.register.synced n)) cs grown after → Next past cs s2 grown g after
+        moved_next s2 grown after at meets o =
+            let past2 : Past = move past (g.register.term + 1) n (has g.register.synced n) in
+            let at_term : after.register.term ≡ g.register.term + 1 = ap (λ (x : Register). x.term) at ∙ term in
+            record {
+              now = o.now;
+              holds = o.holds;
+              remembers = record {
+                meets = λ t low. sym (o.target t) ∙ meets t low;
+                ahead = λ t low. sym (o.safe t) ∙ safe_other past (g.register.term + 1) n (has g.register.synced n) t (λ e. omega (arith, low, e, at_term)) ∙ r.ahead t (omega (arith, low, at_term));
+              };
+              safe = λ t. sym (o.safe t) ∙ by_term (past2.safe t ≡ (past.safe t || safely t g after)) t (g.register.term + 1)
+                  (λ e.
+                  ap past2.safe e ∙ safe_now past (g.register.term + 1) n (has g.register.synced n)
+                  ∙ ap (has g.register.synced) (sym primary ∙ ap (λ (x : Register). x.primary) (sym at))
+                  ∙ sym (ap (λ b. b && ((after.register.term == t) && has g.register.synced after.register.primary)) (lt_yes g.register.term t (omega (arith, e))) ∙ ap (λ b. b && has g.register.synced after.register.primary) (eq_yes after.register.term t (at_term ∙ sym e)))
+                  ∙ ap (λ b. b || safely t g after) (sym (r.ahead t (omega (arith, e)))))
+                  (λ e. safe_other past (g.register.term + 1) n (has g.register.synced n) t e ∙ or_none (past.safe t) (safely t g after) (not_safely t g after (λ q. absurd (e (sym q ∙ at_term)))));
+            }
+          where
+            lt_yes : (a b : ℕ) → a < b → nat_lt a b ≡ true
+            lt_yes a b q = by_bool (nat_lt a b) (λ v. nat_lt a b ≡ v → nat_lt a b ≡ true) (λ _ e. e) (λ _ e. absurd (omega (arith, q, ltb-false a b e))) refl
+
+            eq_yes : (a b : ℕ) → a ≡ b → (a == b) ≡ true
+            eq_yes a b q = by_bool (a == b) (λ v. (a == b) ≡ v → (a == b) ≡ true) (λ _ e. e) (λ _ e. absurd (eqb-false a b e q)) refl
