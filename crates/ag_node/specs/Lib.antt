@@ -1,3 +1,4 @@
+pub mod Blocks
 pub mod View
 pub mod Sites
 pub mod Room
