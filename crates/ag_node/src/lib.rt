@@ -10,4 +10,5 @@ mod peer;
 mod room;
 mod rows;
 pub mod site;
+mod standing;
 mod stripes;

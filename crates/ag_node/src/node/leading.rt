@@ -15,7 +15,7 @@ ghost use Rattle.ag_node.specs.Out.{posting_of};
 ghost use Rattle.ag_node.specs.Sites.{here_at};
 ghost use Rattle.ag_node.specs.Nodes.{IsRefusedBy};
 
-use super::{Node, TERM, not_primary};
+use super::{Node, TERM, down, not_primary};
 use crate::listed::records_of_set;
 use crate::log::records_size;
 use crate::marks::mark;
@@ -43,6 +43,9 @@ impl Node {
         ensures after { OnOk result (self.new ≡ (set_part (here_at site.now) self.old pairs.now).after) }
         ensures pages { length self.new.pages ≡ length self.old.pages }
     {
+        if !self.is_up() {
+            return Ok(down(site));
+        }
         if !self.leads() {
             return Ok(not_primary(site));
         }
@@ -107,6 +110,9 @@ impl Node {
         ensures after { OnOk result (self.new ≡ (harden_part (here_at site.now) self.old).after) }
         ensures pages { length self.new.pages ≡ length self.old.pages }
     {
+        if !self.is_up() {
+            return Ok(down(site));
+        }
         if !self.leads() {
             return Ok(not_primary(site));
         }
@@ -165,6 +171,9 @@ impl Node {
         ensures after { OnOk result (self.new ≡ (send_part (here_at site.now) self.old m full).after) }
         ensures pages { length self.new.pages ≡ length self.old.pages }
     {
+        if !self.is_up() {
+            return Ok((down(site), None));
+        }
         if !self.leads() {
             return Ok((not_primary(site), None));
         }
