@@ -11,7 +11,9 @@ pub mod LogCopies
 pub mod Fitting
 pub mod SetFits
 pub mod LogMore
+pub mod Whole
 pub mod NodeSteps
 pub mod Rising
 pub mod NodeSets
 pub mod OpeningSteps
+pub mod StartSteps

@@ -8,7 +8,7 @@ use Rattle.ag_model.specs.declared.record.Record.{Record}
 use Rattle.ag_model.specs.declared.record.Record.TheVariants.{Term}
 use Rattle.ag_rules.specs.Replica.{Replica, Peer, Page, Stripe, Leading, clean_page, no_following, all_at}
 use Rattle.ag_rules.specs.Group.{opening_replica, synced_at_opening, opening_peers}
-use Rattle.ag_node.specs.declared.standing.Standing.{Standing}
+use Rattle.ag_node.specs.declared.activity.Activity.{Activity}
 use Rattle.ag_node.specs.View.{node_of, kept_of, page_of_flag}
 use Rattle.ag_node.specs.Nodes.{at_opening, leading_of}
 
@@ -32,8 +32,8 @@ count_same zero x = refl
 count_same (suc n) x = omega (arith, count_same n x)
 
 -- where a replica stands at the opening
-abbrev pub standing_at_opening : Bool → Standing
-standing_at_opening leads = record { up = true; leads = leads; follows = not leads; incarnation = 1 }
+abbrev pub activity_at_opening : Bool → Activity
+activity_at_opening leads = record { up = true; leads = leads; follows = not leads; incarnation = 1 }
 
 -- a replica at the opening, by how many images it has, its pages and what it knows as primary
 abbrev opening_of : Bool → ℕ → ℕ → List Page → Leading → Replica
@@ -50,12 +50,12 @@ opening_of leads state images pages leading = record {
   leading = leading;
 }
 
-opened : (c : Config) (leads : Bool) → node_of (standing_at_opening leads) (record { records = Term 1 ∷ []; ends = 1 ∷ [] }) (all_at 1) (replicate c.pages false) (leading_of [] 0 (if leads then synced_at_opening c.modes else 0) (if leads then opening_peers c.modes else [])) ≡ opening_replica c leads
+opened : (c : Config) (leads : Bool) → node_of (activity_at_opening leads) (record { records = Term 1 ∷ []; ends = 1 ∷ [] }) (all_at 1) (replicate c.pages false) (leading_of [] 0 (if leads then synced_at_opening c.modes else 0) (if leads then opening_peers c.modes else [])) ≡ opening_replica c leads
 unfolding opening_replica
 opened c true = λ i. opening_of true 0 (count_same c.pages false i) (pages_clean c.pages i) (leading_of [] 0 (synced_at_opening c.modes) (opening_peers c.modes))
 opened c false = λ i. opening_of false 1 (count_same c.pages false i) (pages_clean c.pages i) (leading_of [] 0 0 [])
 
-pub node_opened : (c : Config) (leads : Bool) (standing : Standing) (log : Log) (ss : List Stripe) (ds : List Bool) (buffer : List Record) (synced : ℕ) (peers : List Peer)
-    → standing ≡ standing_at_opening leads → log ≡ record { records = Term 1 ∷ []; ends = 1 ∷ [] } → ss ≡ all_at 1 → ds ≡ replicate c.pages false → buffer ≡ [] → synced ≡ (if leads then synced_at_opening c.modes else 0) → peers ≡ (if leads then opening_peers c.modes else [])
-    → node_of standing log ss ds (leading_of buffer 0 synced peers) ≡ opening_replica c leads
-node_opened c leads standing log ss ds buffer synced peers at l a d b s p = (λ i. node_of (at i) (l i) (a i) (d i) (leading_of (b i) 0 (s i) (p i))) ∙ opened c leads
+pub node_opened : (c : Config) (leads : Bool) (activity : Activity) (log : Log) (ss : List Stripe) (ds : List Bool) (buffer : List Record) (synced : ℕ) (peers : List Peer)
+    → activity ≡ activity_at_opening leads → log ≡ record { records = Term 1 ∷ []; ends = 1 ∷ [] } → ss ≡ all_at 1 → ds ≡ replicate c.pages false → buffer ≡ [] → synced ≡ (if leads then synced_at_opening c.modes else 0) → peers ≡ (if leads then opening_peers c.modes else [])
+    → node_of activity log ss ds (leading_of buffer 0 synced peers) ≡ opening_replica c leads
+node_opened c leads activity log ss ds buffer synced peers at l a d b s p = (λ i. node_of (at i) (l i) (a i) (d i) (leading_of (b i) 0 (s i) (p i))) ∙ opened c leads

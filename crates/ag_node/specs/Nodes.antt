@@ -10,7 +10,7 @@ use Rattle.ag_rules.specs.Replica.{Leading, Peer, Stripe}
 use Rattle.std.specs.List.{All}
 use Rattle.ag_model.specs.Starts.{last_term}
 use Rattle.ag_built.specs.Whole.{IsWhole}
-use Rattle.ag_node.specs.declared.standing.Standing.{Standing}
+use Rattle.ag_node.specs.declared.activity.Activity.{Activity}
 use Rattle.ag_node.specs.Blocks.{AreBlocks}
 use Rattle.ag_node.specs.LogKept.{RisesTo}
 use Rattle.ag_node.specs.Room.{IsSetLog}
@@ -24,10 +24,10 @@ abbrev pub IsWithin : ℕ → Stripe → Type 0
 IsWithin end s = (s.applied ≤ end) × (s.published ≤ end)
 
 -- a node that is down neither leads nor follows, and one that leads doesn't follow
-pub record IsStanding (standing : Standing) : Type 0 where
-  pub down_leads : standing.up ≡ false → standing.leads ≡ false
-  pub down_follows : standing.up ≡ false → standing.follows ≡ false
-  pub one : standing.leads ≡ true → standing.follows ≡ false
+pub record IsActivity (activity : Activity) : Type 0 where
+  pub down_leads : activity.up ≡ false → activity.leads ≡ false
+  pub down_follows : activity.up ≡ false → activity.follows ≡ false
+  pub one : activity.leads ≡ true → activity.follows ≡ false
 
 -- a log of the first term, each block of which is of whole transactions
 pub record IsFirstTerm (log : Log) : Type 0 where
@@ -36,8 +36,8 @@ pub record IsFirstTerm (log : Log) : Type 0 where
   pub blocks : AreBlocks IsWhole 0 log.ends log.records
 
 -- the numbers that a node keeps beside its log and buffer are theirs
-pub record IsNode (standing : Standing) (log : Log) (stripes : List Stripe) (pages : ℕ) (buffer : List Record) (bytes last_txn : ℕ) (used : List ℕ) : Type 0 where
-  pub stands : IsStanding standing
+pub record IsNode (activity : Activity) (log : Log) (stripes : List Stripe) (pages : ℕ) (buffer : List Record) (bytes last_txn : ℕ) (used : List ℕ) : Type 0 where
+  pub stands : IsActivity activity
   pub some_pages : 16 ≤ pages
   pub few_pages : pages ≤ 2048
   pub sixteen : length stripes ≡ 16
@@ -47,7 +47,7 @@ pub record IsNode (standing : Standing) (log : Log) (stripes : List Stripe) (pag
   pub most : bytes ≤ 15488
   pub fits : HaveSpelling buffer
   pub whole : IsWhole buffer
-  pub room : standing.leads ≡ true → IsSetLog pages last_txn (log.records ++ buffer) used
+  pub room : activity.leads ≡ true → IsSetLog pages last_txn (log.records ++ buffer) used
   pub small : All (λ bytes. bytes ≤ 8144) used
 
 -- this refusal is what the check says, and none is where the check doesn't hold

@@ -3,7 +3,7 @@ use Rattle.std.specs.Prelude.{ℕ, List, [], length, map, replicate, Bool, false
 use Rattle.ag_model.specs.declared.record.Log.{Log}
 use Rattle.ag_model.specs.declared.answer.Cell.{Cell}
 use Rattle.ag_model.specs.declared.answer.Cell.TheVariants.{Mark}
-use Rattle.ag_node.specs.declared.standing.Standing.{Standing}
+use Rattle.ag_node.specs.declared.activity.Activity.{Activity}
 use Rattle.ag_rules.specs.Replica.{Replica, Kept, Leading, Page, Stripe, clean_page, no_following}
 
 -- images of pages that were never written
@@ -28,14 +28,14 @@ abbrev pub state_of : Bool → ℕ
 state_of follows = if follows then 1 else 0
 
 -- a node in the first term; there is a flag for each page
-abbrev pub node_of : Standing → Log → List Stripe → List Bool → Leading → Replica
-node_of standing log stripes dirty leading = record {
-  up = standing.up;
+abbrev pub node_of : Activity → Log → List Stripe → List Bool → Leading → Replica
+node_of activity log stripes dirty leading = record {
+  up = activity.up;
   cut_off = false;
-  leads = standing.leads;
+  leads = activity.leads;
   term = 1;
-  state = state_of standing.follows;
-  kept = kept_of standing.incarnation log (length dirty);
+  state = state_of activity.follows;
+  kept = kept_of activity.incarnation log (length dirty);
   pages = map page_of_flag dirty;
   stripes = stripes;
   following = no_following;

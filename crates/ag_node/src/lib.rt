@@ -1,6 +1,7 @@
 //! One replica: what each event does there.
 #![tactic(auto)]
 
+mod activity;
 mod listed;
 mod log;
 mod marks;
@@ -10,5 +11,5 @@ mod peer;
 mod room;
 mod rows;
 pub mod site;
-mod standing;
 mod stripes;
+mod txns;

@@ -16,7 +16,7 @@ use crate::log::{HardenedLog, block_sectors_of};
 use crate::opening::{clean, known_at_opening, unused};
 use crate::peer::PeerState;
 use crate::site::Site;
-use crate::standing::Standing;
+use crate::activity::Activity;
 use crate::stripes::Stripes;
 use ag_model::answer::{Answer, Refusal};
 use ag_model::config::Config;
@@ -32,7 +32,7 @@ const TERM: u64 = 1;
 /// One replica, which a contract sees as the replica of the rules. It is in the first term.
 #[derive(Drop)]
 pub struct Node {
-    standing: Standing,
+    activity: Activity,
     log: HardenedLog,
     stripes: Stripes,
     /// One flag a data page.
@@ -55,9 +55,9 @@ impl Model for Node {
 
     ghost Value = { Replica };
 
-    ghost view = { λ n. node_of n.standing n.log n.stripes n.dirty.items (leading_of n.buffer n.last_txn n.synced n.peers.items) };
+    ghost view = { λ n. node_of n.activity n.log n.stripes n.dirty.items (leading_of n.buffer n.last_txn n.synced n.peers.items) };
 
-    ghost invariant = { λ n. IsNode n.standing n.log n.stripes (length n.dirty.items) n.buffer n.buffered n.last_txn n.used.items };
+    ghost invariant = { λ n. IsNode n.activity n.log n.stripes (length n.dirty.items) n.buffer n.buffered n.last_txn n.used.items };
 }
 
 impl Node {
@@ -65,7 +65,7 @@ impl Node {
     pub fn term(&self) -> u64
         ensures { result ≡ self.now.term }
     {
-        let _ = &self.standing;
+        let _ = &self.activity;
         TERM
     }
 
@@ -73,7 +73,7 @@ impl Node {
     pub fn is_up(&self) -> bool
         ensures { result ≡ self.now.up }
     {
-        self.standing.up
+        self.activity.up
     }
 
     /// Whether it is primary.
@@ -82,7 +82,7 @@ impl Node {
         ensures term { self.now.term ≡ 1 }
         ensures steady { is_reverting self.now.state ≡ false }
     {
-        self.standing.leads
+        self.activity.leads
     }
 
     /// Whether blocks of its primary are hardened here.
@@ -90,7 +90,7 @@ impl Node {
         ensures is { result ≡ (self.now.state == 1) }
         ensures other { ((self.now.state == 0) || (self.now.state == 3)) ≡ not result }
     {
-        self.standing.follows
+        self.activity.follows
     }
 
     /// Where its hardened log ends, an LSN.
@@ -127,14 +127,14 @@ impl Node {
         ensures pages { IfOk result (λ node. length node.pages ≡ config.now.pages) }
     {
         let (synced, peers) = known_at_opening(alloc, config.modes.as_slice(), leads)?;
-        let standing = Standing {
+        let activity = Activity {
             up: true,
             leads,
             follows: !leads,
             incarnation: 1,
         };
         Ok(Node {
-            standing,
+            activity,
             log: HardenedLog::opening(alloc)?,
             stripes: Stripes::all_at(1),
             dirty: clean(alloc, config.pages)?,

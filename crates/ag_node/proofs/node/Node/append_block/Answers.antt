@@ -8,10 +8,10 @@ use Rattle.ag_node.proofs.node.Node.append_block.Goals as goal
 pub invariant_of-self : goal.invariant_of-self
 invariant_of-self c =
     let n = c.self.inside in
-    node_same n.standing n.log c.append.new.self n.stripes _ _ n.buffer n.buffer n.buffered n.last_txn n.used.items c.self.invariant c.in_err-append.ensures.err refl refl
+    node_same n.activity n.log c.append.new.self n.stripes _ _ n.buffer n.buffer n.buffered n.last_txn n.used.items c.self.invariant c.in_err-append.ensures.err refl refl
 
 pub returns-clause-after : goal.returns-clause-after
 returns-clause-after c =
     let n = c.self.inside in
-    (λ i. node_of n.standing (c.in_ok-append.ensures.ok i) n.stripes n.dirty.items (leading_of n.buffer n.last_txn n.synced n.peers.items))
+    (λ i. node_of n.activity (c.in_ok-append.ensures.ok i) n.stripes n.dirty.items (leading_of n.buffer n.last_txn n.synced n.peers.items))
     ∙ (λ i. record (c.self.view_is i) { kept = record (c.self.view_is i).kept { log = with_block (c.self.view_is i).kept.log (c.in_ok-records.ensures i) } })

@@ -16,14 +16,14 @@ pub invariant_of-self : goal.invariant_of-self
 invariant_of-self c =
     let n = c.self.inside in
     let long : length c.mark.new.dirty ≡ n.dirty.len = omega (arith, c.mark.auto.dirty, c.as_mut_slice.ensures.len) in
-    node_same n.standing n.log c.append.new.self n.stripes _ _ n.buffer c.append.new.block n.buffered n.last_txn n.used.items c.self.invariant c.in_err-append.ensures.err
+    node_same n.activity n.log c.append.new.self n.stripes _ _ n.buffer c.append.new.block n.buffered n.last_txn n.used.items c.self.invariant c.in_err-append.ensures.err
     (ap length (with_items_is n.dirty c.mark.new.dirty long) ∙ c.mark.auto.dirty ∙ ap length c.as_mut_slice.ensures.value) c.in_err-append.ensures.kept
 
 pub returns-clause-after : goal.returns-clause-after
 returns-clause-after c =
     let n = c.self.inside in
     let long : length c.mark.new.dirty ≡ n.dirty.len = omega (arith, c.mark.auto.dirty, c.as_mut_slice.ensures.len) in
-    node_hardened n.standing n.log c.append.new.self n.stripes c.all_at-self-inside.result n.dirty.items _ n.buffer c.append.new.block n.last_txn n.synced n.peers.items c.args.self.now c.args.pages
+    node_hardened n.activity n.log c.append.new.self n.stripes c.all_at-self-inside.result n.dirty.items _ n.buffer c.append.new.block n.last_txn n.synced n.peers.items c.args.self.now c.args.pages
     c.self.view_is c.requires.pages c.in_ok-append.ensures.ok
     (c.all_at-self-inside.ensures ∙ ap all_at (c.end-end.ensures ∙ ap (λ (x : Log). length x.records) c.in_ok-append.ensures.ok ∙ length-append n.log.records n.buffer))
     (with_items_is n.dirty c.mark.new.dirty long ∙ c.mark.ensures ∙ (λ i. marked (c.as_slice.ensures i) (c.as_mut_slice.ensures.value i)))

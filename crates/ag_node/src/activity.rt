@@ -2,7 +2,7 @@
 
 /// Whether a node is up, leads and follows, and how often it was started.
 #[derive(Clone, Copy, Debug, PartialEq, Eq)]
-pub(crate) struct Standing {
+pub(crate) struct Activity {
     pub(crate) up: bool,
     pub(crate) leads: bool,
     /// Whether blocks of its primary are hardened here.
