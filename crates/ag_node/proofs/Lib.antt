@@ -8,6 +8,7 @@ pub mod RoomPairs
 pub mod LogEnds
 pub mod LogStarts
 pub mod LogCopies
+pub mod Blocks
 pub mod Fitting
 pub mod SetFits
 pub mod LogMore
@@ -15,3 +16,5 @@ pub mod NodeSteps
 pub mod Rising
 pub mod NodeSets
 pub mod OpeningSteps
+pub mod Whole
+pub mod WholeRoom
