@@ -1,8 +1,7 @@
 -- What holds of the records of whole transactions.
-use Rattle.std.proofs.Common.{◌≡◌, ℕ, ◌+◌, ◌-◌, ◌≤◌, max, List, [], ◌∷◌, ◌++◌, length, map, take, drop, Bool, true, false, not, refl, sym, ap, ◌∙◌, subst, arith}
+use Rattle.std.proofs.Common.{◌≡◌, ℕ, ◌+◌, ◌-◌, ◌≤◌, max, List, [], ◌∷◌, ◌++◌, length, map, take, drop, Bool, true, false, not, refl, ap, ◌∙◌, subst, arith}
 use Rattle.std.specs.Prelude.{if◌then◌else◌, ◌==◌, ◌||◌, nat_lt}
 use Rattle.std.specs.List.{AllByRecursion, filter, flat_map, fold, list_any}
-use Rattle.std.proofs.lemmas.Bool.{false≢true}
 use Rattle.std.proofs.Math.Bool.{or-true}
 use Rattle.std.proofs.Math.Nat.{le-max_left, le-max_right}
 use Rattle.std.proofs.lemmas.Grind.{fold-append}
@@ -25,7 +24,7 @@ use Rattle.ag_node.proofs.LogStarts.{starts_whole}
 use Rattle.ag_node.proofs.RoomLog.{eqb_self, puts_of, new_of, all_map, all_append}
 
 -- the transactions that have their Commit among the first records have it among the second
-abbrev pub EndsWith : List Record → List Record → Type 0
+abbrev EndsWith : List Record → List Record → Type 0
 EndsWith xs all = (txn : ℕ) → list_any (is_commit_of txn) xs ≡ true → list_any (is_commit_of txn) all ≡ true
 
 ends_left : (xs ys : List Record) → EndsWith xs (xs ++ ys)

@@ -1,5 +1,5 @@
 -- What the records of whole transactions use on the pages.
-use Rattle.std.proofs.Common.{◌≡◌, ℕ, ◌+◌, ◌-◌, ◌<◌, ◌≤◌, List, [], ◌∷◌, ◌++◌, length, replicate, get_or, Bool, true, false, refl, sym, ap, ◌∙◌, arith, length-set, zero-add}
+use Rattle.std.proofs.Common.{◌≡◌, ℕ, ◌+◌, ◌-◌, ◌<◌, ◌≤◌, List, [], ◌∷◌, ◌++◌, length, replicate, get_or, Bool, true, false, refl, ap, ◌∙◌, arith, length-set, zero-add}
 use Rattle.std.specs.Prelude.{if◌then◌else◌, ◌==◌, ◌||◌}
 use Rattle.std.specs.List.{AllByRecursion, flat_map, fold, list_any, enumerate_from}
 use Rattle.std.proofs.lemmas.Bool.{false≢true, ne_eqb}
@@ -13,7 +13,7 @@ use Rattle.ag_model.specs.declared.record.Record.{Record}
 use Rattle.ag_model.specs.declared.record.Record.TheVariants.{Put, Del, Commit, Abort, Trim, Term}
 use Rattle.ag_model.specs.declared.event.Pair.{Pair}
 use Rattle.ag_model.specs.Rows.{page_of}
-use Rattle.ag_model.specs.Page.{numbered, commit_of, is_abort_of, version_here, version_by, all_versions}
+use Rattle.ag_model.specs.Page.{commit_of, is_abort_of, version_here, version_by, all_versions}
 use Rattle.ag_model.specs.Sizes.{change_size, versions_size}
 use Rattle.ag_model.specs.Txns.{last_txn}
 use Rattle.ag_rules.specs.SetEvent.{pair_size}
