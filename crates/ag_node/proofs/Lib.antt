@@ -8,10 +8,12 @@ pub mod RoomPairs
 pub mod LogEnds
 pub mod LogStarts
 pub mod LogCopies
+pub mod Blocks
 pub mod Fitting
 pub mod SetFits
 pub mod LogMore
 pub mod Whole
+pub mod WholeRoom
 pub mod NodeSteps
 pub mod Rising
 pub mod NodeSets

@@ -1,12 +1,13 @@
 -- A node that crashes and starts, from its parts.
 use Rattle.std.proofs.Common.{◌≡◌, ℕ, zero, suc, ◌+◌, ◌<◌, ◌≤◌, List, [], ◌∷◌, ◌++◌, length, drop, map, replicate, Bool, true, false, refl, sym, ap, ap₂, ◌∙◌, subst, arith}
-use Rattle.std.specs.Prelude.{max, nat_le, nat_lt, ◌==◌}
+use Rattle.std.specs.Prelude.{max, nat_le, nat_lt, ◌==◌, if◌then◌else◌}
 use Rattle.std.specs.List.{filter, list_any, All}
 use Rattle.std.proofs.lemmas.Bool.{le-leb, false_from_ne_true, ltb-true}
 use Rattle.std.proofs.lemmas.List.{length-map, append-nil, take_all}
 use Rattle.ag_model.specs.declared.config.Mode.{Mode}
 use Rattle.ag_model.specs.declared.record.Record.{Record}
 use Rattle.ag_model.specs.declared.record.Log.{Log}
+use Rattle.ag_model.specs.declared.answer.Answer.{Answer}
 use Rattle.ag_model.specs.declared.answer.Answer.TheVariants.{Started}
 use Rattle.ag_model.specs.declared.answer.Role.TheVariants.{Primary, Secondary}
 use Rattle.ag_model.specs.Blocks.{cut_at}
@@ -17,14 +18,20 @@ use Rattle.ag_rules.specs.Replica.{Replica, Leading, Page, Peer, Stripe, Master,
 use Rattle.ag_rules.specs.Plan.{Here, Part, Write, Master_write, unless, writing}
 use Rattle.ag_rules.specs.Redo.{redone, touched_up_to, notes_of}
 use Rattle.ag_rules.specs.Promotion.{blocks_of, is_spent, leads_now, new_leading, promotion_records, promotion_touches, promotion_writes}
-use Rattle.ag_rules.specs.StartEvent.{start_part, start_writes, starts, starts_first, starts_second, start_records, is_named, woken, started_master}
+use Rattle.ag_rules.specs.StartEvent.{start_part, start_part_with, start_writes, starts, starts_first, starts_second, start_records, is_named, woken, started_master}
 use Rattle.ag_node.specs.declared.activity.Activity.{Activity}
 use Rattle.ag_node.specs.View.{node_of, kept_of, page_of_flag, state_of}
 use Rattle.ag_node.specs.Marked.{marked_to_end, is_touched_after}
-use Rattle.ag_node.specs.Nodes.{leading_of}
+use Rattle.ag_model.specs.Sizes.{records_size}
+use Rattle.ag_record.specs.Spelling.{HaveSpelling}
+use Rattle.ag_built.specs.Whole.{IsWhole}
+use Rattle.ag_node.specs.Room.{IsSetLog, used_in}
+use Rattle.ag_node.specs.Nodes.{leading_of, IsActivity, IsNode}
 use Rattle.ag_node.specs.LogKept.{RisesTo}
 use Rattle.ag_node.proofs.LogEnds.{rises_le}
-use Rattle.ag_node.proofs.MarksSteps.{length-set_where}
+use Rattle.ag_node.proofs.Whole.{whole_nil, whole_blocks}
+use Rattle.ag_node.proofs.WholeRoom.{whole_set_log}
+use Rattle.ag_node.proofs.NodeSteps.{all_within}
 use Rattle.ag_node.proofs.Quiet.{no_notes, redo_after, redone_where, contains-filter}
 
 -- a crash
@@ -86,17 +93,8 @@ second_is a log ss ds leading f l cut =
       answer = Started Secondary 1 e e;
       writes = writes_of_start a log;
       out = [];
-      after = record (node_of (record { up = true; leads = l i; follows = f i; incarnation = a.incarnation }) log (all_at e) (marked_to_end ss log.records ds) leading) { kept = kept_of (a.incarnation + 1) (cut i) (length ds) };
+      after = record (node_of (record { up = true; leads = l i; follows = f i; incarnation = a.incarnation }) log (all_at e) (marked_to_end ss log.records ds) leading) { kept = kept_of (a.incarnation + 1) (cut i) (length (marked_to_end ss log.records ds)) };
     })
-    ∙ (λ i. record {
-      answer = Started Secondary 1 e e;
-      writes = writes_of_start a log;
-      out = [];
-      after = record (node_of (started_activity false a) log (all_at e) (marked_to_end ss log.records ds) leading) { kept = kept_of (a.incarnation + 1) log (same_flags i) };
-    })
-  where
-    same_flags : length ds ≡ length (marked_to_end ss log.records ds)
-    same_flags = sym (length-set_where (is_touched_after (length ds) ss log.records) 16 ds)
 
 -- what a node knows that starts as primary
 abbrev pub leading_at_start : Here → Log → Leading
@@ -126,17 +124,8 @@ first_of_pages a log ss ds leading h f t cut =
       answer = Started Primary (t i) (add-zero e i) (add-zero e i);
       writes = writes_of_start a log;
       out = [];
-      after = record (node_of (started_activity true a) log (all_at (add-zero e i)) flags (leading_at_start h log)) { term = t i; kept = kept_of (a.incarnation + 1) (cut i) (length ds) };
+      after = record (node_of (started_activity true a) log (all_at (add-zero e i)) flags (leading_at_start h log)) { term = t i; kept = kept_of (a.incarnation + 1) (cut i) (length flags) };
     })
-    ∙ (λ i. record {
-      answer = Started Primary 1 e e;
-      writes = writes_of_start a log;
-      out = [];
-      after = record (node_of (started_activity true a) log (all_at e) flags (leading_at_start h log)) { kept = kept_of (a.incarnation + 1) log (same_flags i) };
-    })
-  where
-    same_flags : length ds ≡ length (marked_to_end ss log.records ds)
-    same_flags = sym (length-set_where (is_touched_after (length ds) ss log.records) 16 ds)
 
 pub first_is : (a : Activity) (log : Log) (ss : List Stripe) (ds : List Bool) (leading : Leading) (h : Here) → h.pages ≡ length ds → a.follows ≡ false → h.store.term ≡ 1 → cut_at (length log.records) log ≡ log →
     starts_first h (node_of a log ss ds leading) []
@@ -158,7 +147,94 @@ pub starts_as_second : (h : Here) (r : Replica) → CanStart r → is_named h �
 unfolding start_part blocks_of
 starts_as_second h r c n = rw (n, c.down, c.told, c.unspent, c.steady, not_below _) refl
 
+nothing_to_append : (h : Here) (r : Replica) → is_named h ≡ true → promotion_records h.pages h.store.term (records r) ≡ [] → start_records h r ≡ []
+nothing_to_append h r n none = ap (λ (b : Bool). if b then promotion_records h.pages h.store.term (records r) else []) n ∙ none
+
+starts_with_nothing : (h : Here) (r : Replica) → CanStart r → is_named h ≡ true → start_part_with h r [] ≡ starts_first h r []
+unfolding blocks_of
+starts_with_nothing h r c n = rw (n, c.down, c.told, c.unspent, c.steady, not_below _) refl
+
 -- a primary that can start, and has nothing to append
 pub starts_as_first : (h : Here) (r : Replica) → CanStart r → is_named h ≡ true → promotion_records h.pages h.store.term (records r) ≡ [] → start_part h r ≡ starts_first h r []
-unfolding start_part blocks_of
-starts_as_first h r c n none = rw (n, none, c.down, c.told, c.unspent, c.steady, not_below _) refl
+unfolding start_part
+starts_as_first h r c n none = ap (start_part_with h r) (nothing_to_append h r n none) ∙ starts_with_nothing h r c n
+
+-- the same of a node that is told, and of its fields once they changed
+
+pub node_fell : (a : Activity) (log : Log) (ss ss' : List Stripe) (ds ds' : List Bool) (leading : Leading) (buffer : List Record) (peers : List Peer) (r : Replica)
+    → node_of a log ss ds leading ≡ r → last_term log.records ≡ 1 → ss' ≡ all_at 1 → ds' ≡ replicate (length ds) false → buffer ≡ [] → peers ≡ []
+    → node_of (fallen_activity a) log ss' ds' (leading_of buffer 0 0 peers) ≡ fallen r r.kept
+node_fell a log ss ss' ds ds' leading buffer peers r is first f d b p =
+    (λ i. node_of (fallen_activity a) log (f i) (d i) (leading_of (b i) 0 0 (p i)))
+    ∙ node_fallen a log ss ds leading first
+    ∙ (λ i. fallen (is i) (is i).kept)
+
+-- a node that is down neither leads nor follows
+down_is : (a : Activity) (log : Log) (ss : List Stripe) (ds : List Bool) (leading : Leading) (r : Replica) → node_of a log ss ds leading ≡ r → IsActivity a → r.up ≡ false → (a.follows ≡ false) × (a.leads ≡ false)
+down_is a log ss ds leading r is h down = let d : a.up ≡ false = ap (λ (x : Replica). x.up) is ∙ down in (h.down_follows d, h.down_leads d)
+
+-- what a node does that is told of a part
+pub record Does (part : Part) (answer : Answer) (after : Replica) : Type 0 where
+  pub answered : answer ≡ part.answer
+  pub left : after ≡ part.after
+
+pub node_second : (a a' : Activity) (log : Log) (ss ss' : List Stripe) (ds ds' : List Bool) (leading : Leading) (r : Replica) (pages e : ℕ)
+    → node_of a log ss ds leading ≡ r → pages ≡ length r.pages → IsActivity a → r.up ≡ false → RisesTo 0 (length log.records) log.ends
+    → a' ≡ started_activity false (record a { incarnation = r.kept.master.incarnation }) → e ≡ length log.records → ss' ≡ all_at e → ds' ≡ marked_to_end ss log.records ds
+    → Does (starts_second r (touched_up_to pages (end r) r)) (Started Secondary 1 e e) (node_of a' log ss' ds' leading)
+node_second a a' log ss ss' ds ds' leading r pages e is p h down rises at is_end f d =
+    let few : length ds ≡ pages = sym (length-map ds page_of_flag) ∙ ap (λ (x : Replica). length x.pages) is ∙ sym p in
+    let no = down_is a log ss ds leading r is h down in
+    let part = second_is a log ss ds leading no.0 no.1 (cut_whole log rises) in
+    let all = sym part ∙ (λ i. starts_second (is i) (touched_up_to (few i) (end (is i)) (is i))) in
+    let same : a' ≡ started_activity false a = at ∙ (λ i. started_activity false (record a { incarnation = (sym is i).kept.master.incarnation })) in
+    record {
+      answered = (λ i. Started Secondary 1 (is_end i) (is_end i)) ∙ ap (λ (x : Part). x.answer) all;
+      left = (λ i. node_of (same i) log ((f ∙ ap all_at is_end) i) (d i) leading) ∙ ap (λ (x : Part). x.after) all;
+    }
+
+pub node_first : (a a' : Activity) (log : Log) (ss ss' : List Stripe) (ds ds' : List Bool) (leading : Leading) (buffer : List Record) (txn : ℕ) (peers : List Peer) (r : Replica) (h : Here) (e : ℕ)
+    → node_of a log ss ds leading ≡ r → h.pages ≡ length r.pages → h.store.term ≡ 1 → IsActivity a → r.up ≡ false → RisesTo 0 (length log.records) log.ends
+    → a' ≡ started_activity true (record a { incarnation = r.kept.master.incarnation }) → e ≡ length log.records → ss' ≡ all_at e → ds' ≡ marked_to_end ss log.records ds
+    → buffer ≡ [] → txn ≡ last_txn log.records → peers ≡ map (λ (m : Mode). no_peer) h.modes
+    → Does (starts_first h r []) (Started Primary 1 e e) (node_of a' log ss' ds' (leading_of buffer txn h.store.synced peers))
+node_first a a' log ss ss' ds ds' leading buffer txn peers r h e is p t stands down rises at is_end f d b last strangers =
+    let few : h.pages ≡ length ds = p ∙ ap (λ (x : Replica). length x.pages) (sym is) ∙ length-map ds page_of_flag in
+    let no = down_is a log ss ds leading r is stands down in
+    let part = first_is a log ss ds leading h few no.0 t (cut_whole log rises) in
+    let all = sym part ∙ (λ i. starts_first h (is i) []) in
+    let same : a' ≡ started_activity true a = at ∙ (λ i. started_activity true (record a { incarnation = (sym is i).kept.master.incarnation })) in
+    record {
+      answered = (λ i. Started Primary 1 (is_end i) (is_end i)) ∙ ap (λ (x : Part). x.answer) all;
+      left = (λ i. node_of (same i) log ((f ∙ ap all_at is_end) i) (d i) (leading_of (b i) (last i) h.store.synced (strangers i))) ∙ ap (λ (x : Part). x.after) all;
+    }
+
+-- what holds of a node that starts as primary
+pub node_led : (a : Activity) (log : Log) (ss ss' : List Stripe) (pages pages' : ℕ) (buffer buffer' : List Record) (bytes txn txn' : ℕ) (used used' : List ℕ)
+    → IsNode a log ss pages buffer bytes txn used → ss' ≡ all_at (length log.records) → pages' ≡ pages → buffer' ≡ [] → txn' ≡ last_txn log.records
+    → used' ≡ used_in pages log.records → All (λ b. b ≤ 8144) used' → (a' : Activity) → IsActivity a' → IsNode a' log ss' pages' buffer' 0 txn' used'
+node_led a log ss ss' pages pages' buffer buffer' bytes txn txn' used used' h f p b t u small a' stands =
+    let at = all_within (length log.records) ss' f in
+    let whole = whole_blocks 0 (length log.records) log.ends log.records h.first.rises (omega arith) h.first.blocks in
+    let room : IsSetLog pages (last_txn log.records) log.records (used_in pages log.records) = whole_set_log pages log.records (omega (arith, h.some_pages)) whole in
+    record {
+      stands = stands;
+      some_pages = omega (arith, p, h.some_pages);
+      few_pages = omega (arith, p, h.few_pages);
+      sixteen = at.0;
+      redone = at.1;
+      first = h.first;
+      counted = sym (ap records_size b);
+      most = omega arith;
+      fits = subst HaveSpelling (sym b) tt;
+      whole = subst IsWhole (sym b) whole_nil;
+      room = λ e. subst (λ (x : ℕ). IsSetLog x txn' (log.records ++ buffer') used') (sym p)
+          (subst (λ (x : List ℕ). IsSetLog pages txn' (log.records ++ buffer') x) (sym u)
+          (subst (λ (x : ℕ). IsSetLog pages x (log.records ++ buffer') (used_in pages log.records)) (sym t)
+          (subst (λ (x : List Record). IsSetLog pages (last_txn log.records) x (used_in pages log.records)) (sym (ap (λ (x : List Record). log.records ++ x) b ∙ append-nil log.records)) room)));
+      small = small;
+    }
+
+pub all_strangers : (modes : List Mode) → replicate (length modes) no_peer ≡ map (λ m. no_peer) modes
+all_strangers [] = refl
+all_strangers (m ∷ ms) = ap (λ (l : List Peer). no_peer ∷ l) (all_strangers ms)

@@ -118,7 +118,7 @@ fn count(pages: u16, used: &mut [u32], entry: &Record) -> Result<(), NoMemory>
         return Ok(());
     };
     let slot = slot_of(pages, *key);
-    let bytes = used[slot] + 30 + u32::from(value.len);
+    let bytes = used[slot].saturating_add(30 + u32::from(value.len));
     if bytes > PAGE_ROOM {
         return Err(NoMemory);
     }

@@ -144,7 +144,7 @@ impl Node {
         requires term { site.now.store.term ≡ 1 }
         requires down { self.old.up ≡ false }
         requires incarnation { incarnation ≡ self.old.kept.master.incarnation + 1 }
-        ensures none { promotion_records site.now.pages 1 (records self.old) ≡ [] }
+        ensures none { OnOk result (promotion_records site.now.pages 1 (records self.old) ≡ []) }
         ensures answer { IfOk result (λ a. a ≡ (starts_first (here_among site.now modes.now) self.old []).answer) }
         ensures after { OnOk result (self.new ≡ (starts_first (here_among site.now modes.now) self.old []).after) }
         ensures pages { length self.new.pages ≡ length self.old.pages }
