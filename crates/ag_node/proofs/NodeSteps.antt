@@ -26,9 +26,9 @@ use Rattle.ag_node.specs.View.{node_of, page_of_flag, state_of}
 use Rattle.ag_node.specs.Marked.{marked, marked_of, marked_to_end}
 use Rattle.ag_node.specs.Room.{IsSetLog}
 use Rattle.ag_node.specs.Nodes.{IsNode, IsFirstTerm, IsWithin, leading_of}
-use Rattle.ag_node.proofs.LogEnds.{rises_push}
+use Rattle.ag_logstore.proofs.LogEnds.{rises_push}
 use Rattle.ag_node.proofs.Whole.{whole_nil, term_stays}
-use Rattle.ag_node.proofs.Blocks.{blocks_push}
+use Rattle.ag_logstore.proofs.Blocks.{blocks_push}
 use Rattle.ag_node.proofs.Quiet.{hardens_is, redoes_is, applies_is, access_is_free}
 
 -- the pages of a node are its flags

@@ -27,8 +27,8 @@ use Rattle.ag_record.specs.Spelling.{HaveSpelling}
 use Rattle.ag_built.specs.Whole.{IsWhole}
 use Rattle.ag_node.specs.Room.{IsSetLog, used_in}
 use Rattle.ag_node.specs.Nodes.{leading_of, IsActivity, IsNode}
-use Rattle.ag_node.specs.LogKept.{RisesTo}
-use Rattle.ag_node.proofs.LogEnds.{rises_le}
+use Rattle.ag_logstore.specs.LogKept.{RisesTo}
+use Rattle.ag_logstore.proofs.LogEnds.{rises_le}
 use Rattle.ag_node.proofs.Whole.{whole_nil, whole_blocks}
 use Rattle.ag_node.proofs.WholeRoom.{whole_set_log}
 use Rattle.ag_node.proofs.NodeSteps.{all_within}

@@ -1,9 +1,7 @@
-pub mod Blocks
 pub mod View
 pub mod Sites
 pub mod Room
 pub mod Folded
 pub mod Marked
-pub mod LogKept
 pub mod Nodes
 pub mod Out

@@ -3,7 +3,6 @@
 
 mod activity;
 mod listed;
-mod log;
 mod marks;
 pub mod node;
 pub mod opening;

@@ -5,7 +5,7 @@ use Rattle.ag_node.specs.View.{node_of}
 use Rattle.ag_node.specs.Nodes.{leading_of}
 use Rattle.ag_rules.specs.Replica.{Replica}
 use Rattle.ag_built.specs.Whole.{IsWhole}
-use Rattle.ag_node.proofs.Fitting.{payload_some}
+use Rattle.ag_logstore.proofs.Fitting.{payload_some}
 use Rattle.ag_node.proofs.NodeSteps.{node_same, node_after_block}
 use Rattle.ag_node.proofs.node.Node.append_block.Goals as goal
 

@@ -3,7 +3,7 @@ use Rattle.std.specs.Prelude.{IfSome}
 use Rattle.ag_model.specs.Blocks.{after_to}
 use Rattle.ag_rules.specs.Replica.{Replica, records}
 use Rattle.ag_built.specs.Whole.{IsWhole}
-use Rattle.ag_node.proofs.Blocks.{block_found}
+use Rattle.ag_logstore.proofs.Blocks.{block_found}
 use Rattle.ag_node.proofs.node.Node.block_to_send.Goals as goal
 
 pub returns-clause-whole : goal.returns-clause-whole
