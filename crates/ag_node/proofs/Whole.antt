@@ -20,7 +20,7 @@ use Rattle.ag_logstore.specs.Blocks.{AreBlocks}
 use Rattle.ag_logstore.specs.LogKept.{RisesTo, starts_after}
 use Rattle.ag_node.specs.Room.{is_trim}
 use Rattle.ag_logstore.proofs.LogEnds.{rises_le}
-use Rattle.ag_node.proofs.LogStarts.{starts_whole}
+use Rattle.ag_logstore.proofs.LogStarts.{starts_whole}
 use Rattle.ag_node.proofs.RoomLog.{eqb_self, puts_of, new_of, all_map, all_append}
 
 -- the transactions that have their Commit among the first records have it among the second
