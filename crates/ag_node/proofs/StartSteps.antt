@@ -117,7 +117,7 @@ first_of_pages a log ss ds leading h f t cut =
     let flags = marked_to_end ss log.records ds in
     let redone_is : redone touched (woken r) ≡ node_of up log ss flags leading
     = redone_where up log ss ds leading touched (is_touched_after (length ds) ss log.records)
-      (λ p l h. contains-filter test p 16 (length ds) l h ∙ ap (list_any (touches (length ds) p)) (append-nil (drop (applied_of r p) log.records))) in
+    (λ p l h. contains-filter test p 16 (length ds) l h ∙ ap (list_any (touches (length ds) p)) (append-nil (drop (applied_of r p) log.records))) in
     let led : Replica → ℕ → Replica = λ s n. record s { leads = true; state = 0; term = h.store.term; stripes = all_at n; leading = new_leading here (woken r) } in
     ap₂ (λ (ns : List Write) (s : Replica). writing (Started Primary h.store.term (e + 0) (e + 0)) (start_writes r (ns ++ [])) [] (led s (e + 0))) (no_notes a log ss ds leading touched) redone_is
     ∙ (λ i. record {

@@ -12,10 +12,10 @@ mod following;
 mod leading;
 mod starting;
 
+use crate::activity::Activity;
 use crate::opening::{clean, known_at_opening, unused};
 use crate::peer::PeerState;
 use crate::site::Site;
-use crate::activity::Activity;
 use crate::stripes::Stripes;
 use ag_logstore::{HardenedLog, block_sectors_of};
 use ag_model::answer::{Answer, Refusal};

@@ -61,12 +61,7 @@ impl Node {
     /// `start` at this replica: it comes up from its log and its master, as primary exactly where the store names it. The
     /// replicas of the group have these modes.
     #[tactic(auto, unfolding(ag_rules::specs::StartEvent::start_part))]
-    pub fn start(
-        &mut self,
-        alloc: Global,
-        site: &Site,
-        modes: &[Mode],
-    ) -> Result<Answer, NoMemory>
+    pub fn start(&mut self, alloc: Global, site: &Site, modes: &[Mode]) -> Result<Answer, NoMemory>
         requires pages { site.now.pages ≡ length self.old.pages }
         requires term { site.now.store.term ≡ 1 }
         ensures answer { IfOk result (λ a. a ≡ (start_part (here_among site.now modes.now) self.old).answer) }
@@ -112,11 +107,7 @@ impl Node {
     {
         let _ = pages;
         let end = self.log.end();
-        mark_to_end(
-            self.dirty.as_mut_slice(),
-            &self.stripes,
-            self.log.records(),
-        );
+        mark_to_end(self.dirty.as_mut_slice(), &self.stripes, self.log.records());
         self.stripes = Stripes::all_at(end);
         self.activity = Activity {
             up: true,
