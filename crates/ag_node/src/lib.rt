@@ -1,8 +1,8 @@
 //! One replica: what each event does there.
 #![tactic(auto)]
 
+mod activity;
 mod listed;
-mod log;
 mod marks;
 pub mod node;
 pub mod opening;
@@ -11,3 +11,4 @@ mod room;
 mod rows;
 pub mod site;
 mod stripes;
+mod txns;

@@ -1,5 +1,5 @@
 -- What a disk reads, and what a crash may leave in its sectors.
-use Rattle.std.specs.Prelude.{◌≡◌, ◌⊎◌, ◌≤◌, ℕ, suc, List, [], ◌∷◌, Option, Some, Bool, IsTrue, ◌==◌, if◌then◌else◌, Result, IsErrOf}
+use Rattle.std.specs.Prelude.{◌≡◌, ◌⊎◌, ◌≤◌, ℕ, suc, List, [], ◌∷◌, replicate, Option, Some, None, Bool, IsTrue, ◌==◌, if◌then◌else◌, Result, IsErrOf}
 use Rattle.ag_outside.specs.declared.disk.SectorWrite.{SectorWrite}
 use Rattle.ag_outside.specs.declared.disk.DiskError.{DiskError}
 use Rattle.ag_outside.specs.declared.disk.DiskError.TheVariants.{Failed}
@@ -8,6 +8,11 @@ use Rattle.ag_outside.specs.Counts.{HasRisen}
 -- the bytes of a sector, or `None` where it is lost
 abbrev pub Content : Type 0
 Content = Option (List ℕ)
+
+-- the bytes of a sector, where a lost one, or one that was never written, counts as zeros
+abbrev pub or_zeros : Content → List ℕ
+or_zeros (Some bytes) = bytes
+or_zeros None = replicate 512 0
 
 -- what each sector has
 abbrev pub Image : Type 0

@@ -1,5 +1,5 @@
 -- What a disk in memory reads, and what a crash may leave of it.
-use Rattle.std.specs.Prelude.{◌≡◌, ◌⊎◌, ◌≤◌, ℕ, List, [], ◌∷◌, length, take, drop, replicate, Option, Some, None, Bool, nat_eq, if◌then◌else◌}
+use Rattle.std.specs.Prelude.{◌≡◌, ◌↔◌, ◌⊎◌, ◌+◌, ◌-◌, ◌^◌, ◌≤◌, ℕ, min, Contains, Result, IsErrOf, List, [], ◌∷◌, length, take, drop, replicate, Option, Some, None, Bool, nat_eq, if◌then◌else◌}
 use Rattle.std.proofs.Common.{sym, subst}
 use Rattle.std.proofs.lemmas.List.{take_all, drop_all}
 use Rattle.std.proofs.Math.Nat.{le_refl, le_antisymm}
@@ -7,19 +7,17 @@ use Rattle.std.specs.HashMap.{HashMap, get}
 use Rattle.std.specs.declared.hash.BuildHasherDefault.{BuildHasherDefault}
 use Rattle.std.specs.declared.hash.FoldHasher.{FoldHasher}
 use Rattle.ag_outside.specs.declared.disk.SectorWrite.{SectorWrite}
+use Rattle.ag_outside.specs.declared.disk.DiskError.{DiskError}
+use Rattle.ag_outside.specs.declared.disk.DiskError.TheVariants.{Failed}
 use Rattle.ag_outside.specs.declared.mem_disk.Change.{Change}
 use Rattle.ag_outside.specs.declared.mem_disk.Change.TheVariants.{Wrote, Synced}
 use Rattle.ag_outside.specs.declared.mem_disk.MemDisk.{MemDisk}
-use Rattle.ag_outside.specs.Disks.{Content, Image, put, WroteSo, IsImage}
+use Rattle.ag_outside.specs.Disks.{Content, Image, or_zeros, put, WroteSo, IsImage}
+use Rattle.ag_outside.specs.Calls.{Call, Write_call, Read_call, Sync_call}
 
 -- the sectors that were written
 abbrev pub Sectors : Type 0
 Sectors = HashMap ℕ (List ℕ) (BuildHasherDefault FoldHasher)
-
--- what was written, or zeros
-abbrev pub or_zeros : Option (List ℕ) → List ℕ
-or_zeros (Some sector) = sector
-or_zeros None = replicate 512 0
 
 -- the bytes of a sector
 abbrev pub bytes_at : Sectors → ℕ → List ℕ
@@ -72,6 +70,18 @@ mem_faults disk = disk.faults
 -- the calls that fail
 abbrev pub mem_failing : MemDisk → List ℕ
 mem_failing disk = disk.failing.items
+
+-- a call that ended so is one more, and it failed exactly where its number is one of those that fail
+pub record MemDid {T : Type 0} (old : MemDisk) (result : Result T DiskError) (new : MemDisk) : Type 0 where
+  pub told : IsErrOf result Failed ↔ Contains (mem_failing old) (mem_calls new)
+  pub calls : mem_calls new ≡ min (mem_calls old + 1) (2 ^ 64 - 1)
+  pub failing : mem_failing new ≡ mem_failing old
+
+-- what a disk in memory promises of a call beside the model of a disk
+abbrev pub mem_did : MemDisk → Call → MemDisk → Type 0
+mem_did old (Write_call first sectors result) new = MemDid old result new
+mem_did old (Read_call at result) new = MemDid old result new
+mem_did old (Sync_call result) new = MemDid old result new
 
 -- zeros everywhere
 abbrev pub image_of_zeros : Image

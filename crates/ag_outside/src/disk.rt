@@ -2,6 +2,7 @@
 //! bytes written to it since.
 ghost use Rattle.std.specs.Prelude.{◌≡◌, ◌^◌, ◌+◌, ◌<◌, ◌≤◌, ℕ, Bool, IsTrue, Some, None, length, OnOk, []};
 ghost use Rattle.ag_outside.specs.declared.disk.DiskError.TheVariants.{NoMemory};
+ghost use Rattle.ag_outside.specs.Calls.{Call, Write_call, Read_call, Sync_call};
 ghost use Rattle.ag_outside.specs.Disks.{Content, Image, writes, put_all, MayAdd, SameImages, Only, IsImage, Elapses, HasCause};
 
 use std::alloc::{AllocError, AllocFailed};
@@ -75,6 +76,9 @@ pub trait Disk {
     /// How often it has failed.
     ghost faults: { Self → ℕ };
 
+    /// What this kind of disk promises of a call beside the model.
+    ghost did: { Self → Call → Self → Type 0 };
+
     /// How many sectors there are.
     fn sectors(&self) -> u32
         ensures { result ≡ size self.now };
@@ -88,7 +92,8 @@ pub trait Disk {
         ensures cause { HasCause (faults self.old) (faults self.new) result }
         ensures size { size self.new ≡ size self.old }
         ensures keeps { keeps self.new ≡ keeps self.old }
-        ensures traced { traced self.new ≡ traced self.old };
+        ensures traced { traced self.new ≡ traced self.old }
+        ensures did { did self.old (Write_call first from.now result) self.new };
 
     /// Reads a sector into the buffer. It changes no sector and no image, whatever it answers.
     fn read(&mut self, at: u32, into: &mut Sector) -> Result<Found, DiskError>
@@ -101,7 +106,8 @@ pub trait Disk {
         ensures cause { HasCause (faults self.old) (faults self.new) result }
         ensures size { size self.new ≡ size self.old }
         ensures keeps { keeps self.new ≡ keeps self.old }
-        ensures traced { traced self.new ≡ traced self.old };
+        ensures traced { traced self.new ≡ traced self.old }
+        ensures did { did self.old (Read_call at result) self.new };
 
     /// After it, a crash leaves what is read.
     fn sync(&mut self) -> Result<(), DiskError>
@@ -112,7 +118,8 @@ pub trait Disk {
         ensures cause { HasCause (faults self.old) (faults self.new) result }
         ensures size { size self.new ≡ size self.old }
         ensures keeps { keeps self.new ≡ keeps self.old }
-        ensures traced { traced self.new ≡ traced self.old };
+        ensures traced { traced self.new ≡ traced self.old }
+        ensures did { did self.old (Sync_call result) self.new };
 
     /// What is read is one of the images.
     ghost reads_one: { (disk : Self) → IsTrue (keeps disk) → IsImage (may_hold disk) (reads disk) };

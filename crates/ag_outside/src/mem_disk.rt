@@ -2,9 +2,10 @@
 ghost use Rattle.std.specs.Prelude.{◌≡◌, ◌↔◌, ◌+◌, ◌-◌, ◌^◌, ◌<◌, ◌≤◌, ◌++◌, ◌∷◌, [], ℕ, Bool, IsTrue, Some, None, true, false, length, vec_len, vec_capacity, min, OnOk, OnErr, IsErr, IsErrOf, Contains, nat_eq, replicate, if◌then◌else◌};
 ghost use Rattle.ag_outside.specs.declared.mem_disk.Change.TheVariants.{Wrote, Synced};
 ghost use Rattle.ag_outside.specs.Counts.{HasRisen};
+ghost use Rattle.ag_outside.specs.Calls.{Write_call, Read_call, Sync_call};
 ghost use Rattle.ag_outside.specs.Disks.{put, put_all, writes, MayAdd, SameImages, Only, Elapses, HasCause};
 ghost use Rattle.std.proofs.Common.{inl, refl, lit<};
-ghost use Rattle.ag_outside.specs.MemDisks.{bytes_at, image_of, image_of_zeros, changes, held, left_by, mem_reads, mem_changes, mem_traced, mem_calls, mem_faults, mem_failing, now_left, left_now};
+ghost use Rattle.ag_outside.specs.MemDisks.{bytes_at, image_of, image_of_zeros, changes, held, left_by, mem_reads, mem_changes, mem_traced, mem_calls, mem_faults, mem_failing, mem_did, now_left, left_now};
 
 use crate::disk::{Disk, DiskError, Found, Sector, SectorWrite};
 use std::alloc::{AllocError, Global};
@@ -153,6 +154,8 @@ impl Disk for MemDisk {
 
     ghost faults = { mem_faults };
 
+    ghost did = { mem_did };
+
     ghost reads_one = { λ d _ at. inl refl };
 
     ghost tells = { λ d at content held. refl };
@@ -177,9 +180,7 @@ impl Disk for MemDisk {
         ensures keeps { true ≡ true }
         ensures traced { mem_traced self.new ≡ mem_traced self.old }
         // It fails at the calls that it was told, and at no other.
-        ensures told { IsErrOf result DiskError.Failed ↔ Contains (mem_failing self.old) (mem_calls self.new) }
-        ensures calls { mem_calls self.new ≡ min (mem_calls self.old + 1) (2 ^ 64 - 1) }
-        ensures failing { mem_failing self.new ≡ mem_failing self.old }
+        ensures did { mem_did self.old (Write_call first from.now result) self.new }
     {
         if fails(&mut self.calls, &mut self.faults, &self.failing) {
             return Err(DiskError::Failed);
@@ -200,9 +201,7 @@ impl Disk for MemDisk {
         ensures keeps { true ≡ true }
         ensures traced { mem_traced self.new ≡ mem_traced self.old }
         // It fails at the calls that it was told, and at no other.
-        ensures told { IsErrOf result DiskError.Failed ↔ Contains (mem_failing self.old) (mem_calls self.new) }
-        ensures calls { mem_calls self.new ≡ min (mem_calls self.old + 1) (2 ^ 64 - 1) }
-        ensures failing { mem_failing self.new ≡ mem_failing self.old }
+        ensures did { mem_did self.old (Read_call at result) self.new }
     {
         if fails(&mut self.calls, &mut self.faults, &self.failing) {
             return Err(DiskError::Failed);
@@ -221,9 +220,7 @@ impl Disk for MemDisk {
         ensures keeps { true ≡ true }
         ensures traced { mem_traced self.new ≡ mem_traced self.old }
         // It fails at the calls that it was told, and at no other.
-        ensures told { IsErrOf result DiskError.Failed ↔ Contains (mem_failing self.old) (mem_calls self.new) }
-        ensures calls { mem_calls self.new ≡ min (mem_calls self.old + 1) (2 ^ 64 - 1) }
-        ensures failing { mem_failing self.new ≡ mem_failing self.old }
+        ensures did { mem_did self.old (Sync_call result) self.new }
     {
         if fails(&mut self.calls, &mut self.faults, &self.failing) {
             return Err(DiskError::Failed);

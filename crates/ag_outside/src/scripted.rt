@@ -1,9 +1,10 @@
 //! A disk that follows an order over another one.
 ghost use Rattle.std.specs.Prelude.{◌≡◌, ◌≢◌, ◌⊎◌, ◌-◌, ◌+◌, ◌<◌, ◌≤◌, ◌^◌, ◌++◌, ◌∷◌, [], ℕ, Bool, IsTrue, Some, None, true, false, length, min, OnOk, OnErr, IfOk, IfSome, IfNone, IsErr, IsErrOf};
+ghost use Rattle.ag_outside.specs.Calls.{Write_call, Read_call, Sync_call};
 ghost use Rattle.ag_outside.specs.Disks.{put, put_all, writes, MayAdd, SameImages, Only, IsImage, Elapses, HasCause};
 ghost use Rattle.ag_outside.specs.Counts.{HasRisen};
 ghost use Rattle.ag_outside.specs.Scripts.{is_lost, kept, fillers, with_lost, InRange, LostAsWritten};
-ghost use Rattle.ag_outside.specs.Shown.{reads_of, synced_of, holds_of, shown_one, IsReached, Told, ToldAtSync};
+ghost use Rattle.ag_outside.specs.Shown.{reads_of, synced_of, holds_of, shown_one, Told, ToldAtSync, did_of};
 
 use crate::disk::{Disk, DiskError, Found, Sector, SectorWrite};
 use crate::handing::{add_writes, flush, keep, lose, newest};
@@ -287,6 +288,8 @@ impl<D: Disk> Disk for Scripted<D> {
 
     ghost faults = { λ s. s.faults };
 
+    ghost did = { did_of D.keeps D.reads D.faults };
+
     ghost reads_one = { λ s k. shown_one (D.keeps s.disk) (D.may_hold s.disk) (D.reads s.disk) s.lost s.unsynced k (D.reads_one s.disk k) };
 
     ghost tells = { λ s at content held. held.0 };
@@ -310,14 +313,8 @@ impl<D: Disk> Disk for Scripted<D> {
         ensures size { D.size self.new.disk ≡ D.size self.old.disk }
         ensures keeps { D.keeps self.new.disk ≡ D.keeps self.old.disk }
         ensures traced { false ≡ false }
-        // It is kept back.
-        ensures kept_back { OnOk result (self.new.unsynced ≡ self.old.unsynced ++ writes first from.now) }
-        // The order is followed exactly where its count is reached.
-        ensures counted { (self.new.writes ≡ min (self.old.writes + 1) (2 ^ 64 - 1)) × (self.new.calls ≡ min (self.old.calls + 1) (2 ^ 64 - 1)) }
-        ensures reached { OnOk result (IsReached self.old.order self.new.writes self.new.calls → ⊥) }
-        ensures told { IsErrOf result DiskError.Failed → Told D.keeps D.reads D.faults self.old self.new (self.old.unsynced ++ writes first from.now) self.new.why }
-        ensures order { self.new.order ≡ self.old.order }
-        ensures stays { OnOk result ((self.new.why ≡ self.old.why) × (self.new.intact ≡ self.old.intact)) }
+        // What it does beside that.
+        ensures did { did_of D.keeps D.reads D.faults self.old (Write_call first from.now result) self.new }
     {
         self.count_write();
         if fails_at(self.order, self.calls) {
@@ -341,10 +338,8 @@ impl<D: Disk> Disk for Scripted<D> {
         ensures size { D.size self.new.disk ≡ D.size self.old.disk }
         ensures keeps { D.keeps self.new.disk ≡ D.keeps self.old.disk }
         ensures traced { false ≡ false }
-        // It isn't counted, and changes nothing else.
-        ensures same { self.new ≡ record self.old { disk = self.new.disk; why = self.new.why; faults = self.new.faults } }
-        ensures why { self.new.why ≡ self.old.why ⊎ (self.new.why ≡ Why.Inner) × (result ≡ Err DiskError.Failed) }
-        ensures inner { IsErrOf result DiskError.Failed → HasRisen (D.faults self.old.disk) (D.faults self.new.disk) }
+        // What it does beside that.
+        ensures did { did_of D.keeps D.reads D.faults self.old (Read_call at result) self.new }
     {
         match newest(&self.unsynced, at) {
             Some(sector) => {
@@ -372,13 +367,8 @@ impl<D: Disk> Disk for Scripted<D> {
         ensures size { D.size self.new.disk ≡ D.size self.old.disk }
         ensures keeps { D.keeps self.new.disk ≡ D.keeps self.old.disk }
         ensures traced { false ≡ false }
-        // What was kept back is handed down.
-        ensures handed_down { OnOk result (self.new.unsynced ≡ []) }
-        ensures counted { (self.new.writes ≡ self.old.writes) × (self.new.calls ≡ min (self.old.calls + 1) (2 ^ 64 - 1)) }
-        ensures reached { OnOk result (self.old.order ≡ Arm.Fail self.new.calls → ⊥) }
-        ensures told { IsErrOf result DiskError.Failed → ToldAtSync D.keeps D.reads D.faults self.old self.new self.new.why }
-        ensures order { self.new.order ≡ self.old.order }
-        ensures stays { OnOk result ((self.new.why ≡ self.old.why) × (self.new.intact ≡ self.old.intact)) }
+        // What it does beside that.
+        ensures did { did_of D.keeps D.reads D.faults self.old (Sync_call result) self.new }
     {
         self.calls = self.calls.saturating_add(1);
         if fails_at(self.order, self.calls) {
