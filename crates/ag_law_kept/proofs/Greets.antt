@@ -14,7 +14,7 @@ use Rattle.ag_rules.specs.Group.{Group, replica, with_replica, nobody}
 use Rattle.ag_rules.specs.Plan.{Plan, Batch, here, at_node}
 use Rattle.ag_rules.specs.Cut.{cut, stopped, failed, all_writes, stopped_disk, disk_before}
 use Rattle.std.specs.List.{sum_by}
-use Rattle.ag_rules.specs.HelloMessage.{hello_part, checks_of_hello, fork_with, greets, resume_message}
+use Rattle.ag_rules.specs.HelloMessage.{hello_part, checks_of_hello, fork_with, greeted, greets, resume_message}
 use Rattle.ag_rules.specs.KeptLaw.{Confirmed}
 use Rattle.ag_laws.specs.Prefix.{IsPrefixOf}
 use Rattle.ag_laws.specs.Logs.{Logs, IsTraced}
@@ -91,7 +91,7 @@ module _ (past : Past) (cs : List Confirmed) (logs grown : Logs) (g : Group) (n 
       let r : Replica = replica g m in
       let t : ℕ = r.term in
       let fork : ℕ = fork_with r its_end starts in
-      let new : Peer = record { connected = true; next = fork + 1; hardened = fork; low = 0 } in
+      let new : Peer = greeted fork in
       let r2 : Replica = with_peer r n new in
       let acts : Acts past m r = (w.each m).acts leads in
       let own : HasOwn logs r = (w.each m).own acts.target in

@@ -1,6 +1,6 @@
 -- Events that write blocks or the master, or send: `harden`, `flush`, `finish`, `report`, `send`, `crash`, and messages with blocks, pages and asks.
 use Rattle.std.proofs.Common.{◌≡◌, ℕ, zero, suc, ◌+◌, ◌≤◌, List, [], ◌∷◌, ◌++◌, length, map, take, Bool, true, false, inl, inr, refl, sym, ap, ◌∙◌, subst, arith, take_all, length-append}
-use Rattle.std.specs.Prelude.{Option, Some, None, ◌==◌, ◌||◌, not, nat_le}
+use Rattle.std.specs.Prelude.{Option, Some, None, ◌==◌, ◌||◌, not}
 use Rattle.std.specs.List.{AllByRecursion}
 use Rattle.std.proofs.lemmas.Bool.{false≢true, not-false, or_parts, eqb-true, eqb-false}
 use Rattle.ag_model.specs.declared.record.Record.{Record}
@@ -9,11 +9,11 @@ use Rattle.ag_model.specs.declared.answer.Answer.TheVariants.{Installed}
 use Rattle.ag_model.specs.declared.answer.Refusal.TheVariants.{Nothing}
 use Rattle.ag_model.specs.declared.message.Block.{Block}
 use Rattle.ag_model.specs.declared.message.Body.TheVariants.{Ack}
-use Rattle.ag_rules.specs.Replica.{Replica, Kept, Master, Peer, records, end, low, peer, no_peer, is_reverting, applied_of, page, with_page}
+use Rattle.ag_rules.specs.Replica.{Replica, Kept, Master, Peer, records, end, low, peer, no_peer, takes_foreign, is_reverting, applied_of, page, with_page}
 use Rattle.ag_rules.specs.Plan.{Here, Write, Batch, Block_write, Master_write, written, batch_written, all_written, each_synced, writing}
 use Rattle.ag_rules.specs.Checks.{is_down}
 use Rattle.ag_rules.specs.Messages.{ack_to}
-use Rattle.ag_rules.specs.Redo.{notes_of, installs_of, install_of, installed, touched_by, touched_up_to, due_pages}
+use Rattle.ag_rules.specs.Redo.{may_install, notes_of, installs_of, install_of, installed, touched_by, touched_up_to, due_pages}
 use Rattle.ag_rules.specs.HardenEvent.{harden_part, checks_of_harden, hardened_one, harden_writes}
 use Rattle.ag_rules.specs.FlushEvent.{flush_part, checks_of_flush, by_eights, page_batch, pages_to_flush, flushed_master, flushes}
 use Rattle.ag_rules.specs.FinishEvent.{finish_part, checks_of_finish, finished, finished_master, finish_writes}
@@ -311,9 +311,9 @@ unfolding page_give_part
 give_calm pages r term p lsn f =
     let held : Replica = with_page r p (record (page r p) { held = Some lsn }) in
     checked_calm pages r (checks_of_give r term p) _ f
-    (λ _. if_has (PartCalm pages r) (r.state == 3) (comes r p lsn) _
+    (λ _. if_has (PartCalm pages r) (takes_foreign r.state) (comes r p lsn) _
     (λ three. comes_calm pages r p lsn f three)
-    (λ _. if_has (PartCalm pages r) (nat_le lsn (applied_of r p)) (installs r p lsn) (holds r p lsn)
+    (λ _. if_has (PartCalm pages r) (may_install (applied_of r p) lsn) (installs r p lsn) (holds r p lsn)
     (λ _. small_calm pages r _ (install_of r p) (installed (p ∷ []) r) f (install_is_small r p) refl refl refl refl refl refl refl refl)
     (λ _. still_calm pages r _ held f refl refl refl refl refl refl refl refl)))
 

@@ -15,7 +15,7 @@ use Rattle.ag_rules.specs.Replica.{Replica, Kept, Master, records, end, is_rever
 use Rattle.ag_rules.specs.Group.{Group, replica, with_replica, has}
 use Rattle.ag_rules.specs.Plan.{Check, Part, Master_write, here, at_node, written, all_written, each_synced}
 use Rattle.ag_rules.specs.Cut.{cut}
-use Rattle.ag_rules.specs.ResumeMessage.{resume_message_part, checks_of_resume_message, stays, follows_from, reverts_from, goes_on, changes_log, master_at, reverting_master, lowered, page_in_term, foreign_from, waits_for, accepting}
+use Rattle.ag_rules.specs.ResumeMessage.{resume_message_part, checks_of_resume_message, stays, follows_from, reverts_from, goes_on, changes_log, master_at, reverting_master, lowered, page_in_term, foreign_from, may_follow, is_touched_after, waits_for, accepting}
 use Rattle.ag_rules.specs.KeptLaw.{Confirmed}
 use Rattle.ag_laws.specs.Prefix.{IsPrefixOf}
 use Rattle.ag_laws.specs.Logs.{Logs}
@@ -138,18 +138,18 @@ at_saved pages r term fork s = record { none = s.none; some = s.some }
 foreign_more : (pages : ℕ) (r : Replica) (fork : ℕ) → Fit pages r → is_reverting r.kept.master.state ≡ true → 0 < length (foreign_from pages r fork)
 foreign_more pages r fork f e =
     let p : Passing (λ p. contains p r.kept.master.foreign) (page_numbers pages) = some_passes (λ p. contains p r.kept.master.foreign) (page_numbers pages) (f.disk.some e) in
-    passing_some (λ p. is_foreign r p || list_any (touches pages p) (drop fork (records r))) (page_numbers pages) p.page p.inside (ap (λ b. b || list_any (touches pages p.page) (drop fork (records r))) p.passes)
+    passing_some (λ p. is_foreign r p || is_touched_after pages (records r) fork p) (page_numbers pages) p.page p.inside (ap (λ b. b || is_touched_after pages (records r) fork p.page) p.passes)
 
 foreign_kept : (pages : ℕ) (r : Replica) (fork : ℕ) → 0 < length (foreign_from pages r fork) → 0 < length (filter (λ p. contains p (foreign_from pages r fork)) (page_numbers pages))
 foreign_kept pages r fork some =
-    let p : Passing (λ p. is_foreign r p || list_any (touches pages p) (drop fork (records r))) (page_numbers pages) = some_passes (λ p. is_foreign r p || list_any (touches pages p) (drop fork (records r))) (page_numbers pages) some in
-    passing_some (λ p. contains p (foreign_from pages r fork)) (page_numbers pages) p.page p.inside (kept_inside (λ p. is_foreign r p || list_any (touches pages p) (drop fork (records r))) (page_numbers pages) p.page p.inside p.passes)
+    let p : Passing (λ p. is_foreign r p || is_touched_after pages (records r) fork p) (page_numbers pages) = some_passes (λ p. is_foreign r p || is_touched_after pages (records r) fork p) (page_numbers pages) some in
+    passing_some (λ p. contains p (foreign_from pages r fork)) (page_numbers pages) p.page p.inside (kept_inside (λ p. is_foreign r p || is_touched_after pages (records r) fork p) (page_numbers pages) p.page p.inside p.passes)
 
 -- no page is foreign where nothing is cut and none was
 foreign_none : (pages : ℕ) (r : Replica) (fork : ℕ) → r.kept.master.foreign ≡ [] → end r ≤ fork → foreign_from pages r fork ≡ []
 foreign_none pages r fork none whole =
-    none_pass (λ p. is_foreign r p || list_any (touches pages p) (drop fork (records r))) (page_numbers pages)
-    (λ p. ap (λ (ps : List ℕ). contains p ps || list_any (touches pages p) (drop fork (records r))) none ∙ ap (λ (l : List Record). list_any (touches pages p) l) (drop_all fork (records r) whole))
+    none_pass (λ p. is_foreign r p || is_touched_after pages (records r) fork p) (page_numbers pages)
+    (λ p. ap (λ (ps : List ℕ). contains p ps || is_touched_after pages (records r) fork p) none ∙ ap (λ (l : List Record). list_any (touches pages p) l) (drop_all fork (records r) whole))
 
 pub resume_holds : (past : Past) (cs : List Confirmed) (logs grown : Logs) (g : Group) (n m : ℕ) (term fork undo : ℕ) (ticket : Ticket) (suffix : Suffix) → IsWorld past logs g → Holds past cs logs g → m < length g.replicas → past.target term ≢ m → term ≤ g.register.term
     → (waits_for (replica g m).following.ticket ticket ≡ true → IsAnswered logs term fork (replica g m)) → ResumeTells past logs m (replica g m) term ticket fork
@@ -174,7 +174,7 @@ resume_holds past cs logs grown g n m term fork undo ticket suffix w h there oth
     resumed_holds past cs logs grown g n m w h there term fork undo ticket waits other high answer told.0 told.1 _ (master_at r term fork) (record r { following = accepting n r.following }) suffix refl (at_saved pages r term fork f.disk) (λ i. f.saved ∙ (h.members m i).normal)
     (record { records = refl; at = eqb-true r.term term three.0; leads = one.0; ticket = refl; disk = at_saved pages r term fork f.disk; low = f.low; saved = f.saved })
     (λ i. (h.members m i).normal))
-    (λ _. if_has Good (length foreign == 0) (follows_from n r term fork) (reverts_from n r term fork undo foreign)
+    (λ _. if_has Good (may_follow foreign) (follows_from n r term fork) (reverts_from n r term fork undo foreign)
     (λ e.
     let empty : length foreign ≡ 0 = eqb-true (length foreign) 0 e in
     let normal : is_reverting r.kept.master.state ≡ false =
