@@ -1,6 +1,6 @@
 -- A Resume comes: the replica keeps all that may be known of it, and a member of the set doesn't begin to revert.
 use Rattle.std.specs.Prelude.{◌==◌, not, nat_le, None, ◌&&◌, ◌||◌}
-use Rattle.std.proofs.Common.{◌≡◌, ◌≢◌, ℕ, zero, suc, ◌<◌, ◌≤◌, List, [], ◌∷◌, length, take, drop, map, true, false, inl, inr, ◌⊎◌, refl, sym, ap, ◌∙◌, subst, arith, length-take-le, take_all}
+use Rattle.std.proofs.Common.{◌≡◌, ◌≢◌, ℕ, zero, suc, ◌<◌, ◌≤◌, List, [], ◌∷◌, length, take, map, true, false, inl, inr, ◌⊎◌, refl, sym, ap, ◌∙◌, subst, arith, length-take-le, take_all}
 use Rattle.std.specs.List.{filter, list_any}
 use Rattle.std.proofs.lemmas.Bool.{false≢true, not-false, or_parts, and_parts, eqb-true, eqb-false}
 use Rattle.std.proofs.lemmas.List.{drop_all}
