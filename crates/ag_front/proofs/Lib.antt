@@ -1,0 +1,5 @@
+mod Merging
+mod Keeps
+mod Opening
+mod Loads
+mod Starts

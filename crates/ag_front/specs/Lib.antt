@@ -1,0 +1,7 @@
+pub mod Starts
+pub mod Rule
+pub mod Steps
+pub mod Passes
+pub mod Opens
+pub mod Slots
+pub mod Closes

@@ -1,0 +1,78 @@
+-- What each step tells its pass.
+use Rattle.std.specs.Prelude.{◌≡◌, ℕ, ◌+◌, ◌-◌, ◌<◌, ◌≤◌, Bool, true, false, cond, ◌||◌, List, [], ◌∷◌, length, slice_index, slice_set, min, max, ltb, replicate}
+use mathlib.Core.Option.{some}
+use lib.ListN.{get_elem?}
+use Rattle.atomic_table.specs.Table.{State, Me, Step}
+use Rattle.atomic_table.specs.Seated.{TableId}
+use Rattle.atomic_table.specs.declared.shared.Seat.{Seat}
+use Rattle.ag_model.specs.declared.record.Log.{Log}
+use Rattle.ag_model.specs.Prefixes.{end_of, IsPrefix}
+use Rattle.ag_front.specs.declared.view.View.{View}
+use Rattle.ag_front.specs.declared.rule.Slot.{Slot}
+use Rattle.ag_front.specs.Rule.{IsSound, empty_log}
+
+abbrev pub after_load : View → ℕ → ℕ → View
+after_load v k n = record v { floor = slice_set v.floor k n; loads = slice_set v.loads k (slice_index v.loads k + 1) }
+
+abbrev pub after_raise : View → ℕ → ℕ → View
+after_raise v k n = record v { floor = slice_set v.floor k n }
+
+abbrev pub Hold : Type 0 → Type 0
+Hold T = Me (Slot T) View
+
+abbrev pub kept_part : ℕ → View → View
+kept_part n v = record v { parts = v.parts - n }
+
+abbrev pub given_part : ℕ → View → View
+given_part n v = record v { parts = n; author = false }
+
+abbrev pub longer : Log → Log → Log
+longer a b = cond (ltb (end_of a) (end_of b)) b a
+
+-- the greater number at each place
+abbrev pub maxes : List ℕ → List ℕ → List ℕ
+maxes [] ys = []
+maxes (x ∷ xs) [] = []
+maxes (x ∷ xs) (y ∷ ys) = max x y ∷ maxes xs ys
+
+abbrev pub merged : View → View → View
+merged v w = record {
+  seen = longer v.seen w.seen;
+  floor = maxes v.floor w.floor;
+  done = maxes v.done w.done;
+  turn = maxes v.turn w.turn;
+  takes = maxes v.takes w.takes;
+  tries = maxes v.tries w.tries;
+  loads = maxes v.loads w.loads;
+  olds = (v.seen, w.seen);
+  author = v.author || w.author;
+  parts = v.parts + w.parts;
+  pages = v.pages;
+  hand = 0;
+  at = 0;
+}
+
+-- a view that a join has spent
+abbrev pub spent_view : View
+spent_view = record {
+  seen = empty_log;
+  floor = [];
+  done = [];
+  turn = [];
+  takes = [];
+  tries = [];
+  loads = [];
+  olds = (empty_log, empty_log);
+  author = false;
+  parts = 0;
+  pages = 0;
+  hand = 0;
+  at = 0;
+}
+
+module _ {T : Type 0} where
+  abbrev pub loaded : Step (Slot T) → Hold T → ℕ → Hold T → Type 0
+  loaded st m n m' = (m' ≡ (after_load m.0 st.word n, m.1)) × (slice_index m.0.floor st.word ≤ n) × IsSound m'.0
+
+  abbrev pub raised : Step (Slot T) → Hold T → ℕ → Hold T → Type 0
+  raised st m n m' = (m' ≡ (after_raise m.0 st.word (max n st.first), m.1)) × (slice_index m.0.floor st.word ≤ max n st.first) × IsSound m'.0

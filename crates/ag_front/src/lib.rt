@@ -1,0 +1,12 @@
+//! A shared redo front: sixteen published LSNs, sixteen stripes and a log in one table, for threads that
+//! redo and read one secondary.
+#![tactic(auto)]
+
+pub mod front;
+pub mod history;
+pub mod open;
+pub mod passes;
+pub mod plays;
+pub mod rule;
+pub mod shared;
+pub mod view;
