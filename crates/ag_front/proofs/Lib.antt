@@ -3,3 +3,9 @@ mod Keeps
 mod Opening
 mod Loads
 mod Starts
+mod Taking
+mod Giving
+mod Grabbing
+mod Copies
+mod Ends
+mod Logging

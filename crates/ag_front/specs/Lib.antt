@@ -5,3 +5,4 @@ pub mod Passes
 pub mod Opens
 pub mod Slots
 pub mod Closes
+pub mod Fetches

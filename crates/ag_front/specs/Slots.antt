@@ -116,12 +116,16 @@ module _ {T : Type 0} where
     pub tries : List ℕ
     pub is : m' ≡ (record m.0 { turn = slice_set m.0.turn 16 turn; tries = tries }, m.1)
 
-  -- after a call that took the log and gave it back
+  -- a call took the log and gave it back, and the pass holds nothing
   pub record LogVisited (m m' : Hold T) : Type 0 where
     pub free : (m'.1 ≡ []) × (m'.0.hand ≡ 0)
+    pub more : IsPrefix m.0.seen m'.0.seen
     pub takes : m'.0.takes ≡ counted_up m.0.takes 16
+    pub turns : (k : ℕ) → k < 16 → slice_index m'.0.turn k ≡ slice_index m.0.turn k
     pub floor : m'.0.floor ≡ m.0.floor
     pub done : m'.0.done ≡ m.0.done
-    pub parts : m'.0.parts ≡ m.0.parts
+    pub loads : m'.0.loads ≡ m.0.loads
+    pub olds : m'.0.olds ≡ m.0.olds
     pub author : m'.0.author ≡ m.0.author
-    pub more : IsPrefix m.0.seen m'.0.seen
+    pub parts : m'.0.parts ≡ m.0.parts
+    pub pages : m'.0.pages ≡ m.0.pages

@@ -1,11 +1,17 @@
 //! The log of a front, in memory.
-ghost use Rattle.std.specs.Prelude.{◌≡◌, ◌+◌, ◌^◌, ◌<◌, ◌++◌, ◌∷◌, [], length, IfOk, OnOk, OnErr};
-ghost use Rattle.ag_model.specs.Blocks.{with_block};
+ghost use Rattle.std.specs.Prelude.{◌≡◌, ◌≢◌, ◌+◌, ◌^◌, ◌<◌, ◌≤◌, ◌++◌, ◌∷◌, [], ℕ, length, true, slice_index, IfOk, IfErr, OnOk, OnErr};
+ghost use Rattle.ag_model.specs.Blocks.{with_block, after_to};
 ghost use Rattle.ag_model.specs.Starts.{start_by};
-ghost use Rattle.ag_front.specs.Starts.{starts_after};
+ghost use Rattle.ag_model.specs.Prefixes.{IsBlockEnd};
+ghost use Rattle.ag_model.specs.Proper.{IsProper, RisesFrom};
+ghost use Rattle.ag_model.specs.Rows.{contains};
+ghost use Rattle.ag_front.specs.Fetches.{IsDispatchFault, IsFetched};
+ghost use Rattle.ag_front.specs.Starts.{starts_after, term_by};
 
+use crate::fault::{DispatchFault, Fetched};
 use ag_model::config::TermStart;
 use ag_model::list::ListOf;
+use ag_model::message::Block;
 use ag_model::record::{Log, Record, RecordList};
 use ag_model::value::NoMemory;
 use std::alloc::Global;
@@ -71,8 +77,52 @@ impl History {
         self.records.len() as u64
     }
 
-    /// Moves a block to the end. Where memory is refused, the log is as it was.
-    pub(crate) fn append(&mut self, block: &mut RecordList) -> Result<(), NoMemory>
+    /// Moves a block to the end, and answers the new last LSN. After an error the log is as it was.
+    pub(crate) fn add(&mut self, block: Block) -> Result<u64, DispatchFault>
+        requires room { length self.old.records ≤ 2 ^ 63 }
+        requires more { block.first ≡ length self.old.records + 1 → length self.old.records + length block.records ≤ 2 ^ 63 }
+        ensures next { IfOk result (λ _. block.first ≡ length self.old.records + 1) }
+        ensures ok { IfOk result (λ _. self.new ≡ with_block self.old block.records) }
+        ensures end { IfOk result (λ end. end ≡ length self.new.records) }
+        ensures err { OnErr result (self.new ≡ self.old) }
+        ensures fault { IfErr result (IsDispatchFault block.first (length self.old.records)) }
+    {
+        let end = self.end();
+        if block.first != end + 1 {
+            return Err(DispatchFault::NotNext {
+                start: block.first,
+                end,
+            });
+        }
+        let Block { mut records, .. } = block;
+        if self.append(&mut records).is_err() {
+            return Err(DispatchFault::NoMemory);
+        }
+        Ok(self.end())
+    }
+
+    /// The block after an LSN at which a block ends.
+    pub(crate) fn block_after(&self, alloc: Global, lsn: u64) -> Result<Fetched, NoMemory>
+        requires proper { (pages : ℕ) × IsProper pages self.now }
+        requires end { IsBlockEnd self.now lsn }
+        ensures { IfOk result (IsFetched self.now lsn) }
+    {
+        let place = place_of(self.ends.as_slice(), lsn);
+        let Some(end) = self.ends.get(place + 1) else {
+            return Ok(Fetched::UpToDate);
+        };
+        let last = *end;
+        let records = copy_records(alloc, self.records.as_slice(), lsn, last)?;
+        let term = term_of(self.starts.as_slice(), last);
+        Ok(Fetched::Next(Block {
+            first: lsn + 1,
+            term,
+            records,
+        }))
+    }
+
+    /// Moves records to the end as a block. Where memory is refused, the log is as it was.
+    fn append(&mut self, block: &mut RecordList) -> Result<(), NoMemory>
         requires { length self.old.records + length block.old < 2 ^ 64 }
         ensures ok { OnOk result (self.new ≡ with_block self.old block.old) }
         ensures err { OnErr result (self.new ≡ self.old) }
@@ -80,6 +130,47 @@ impl History {
         grow(&mut self.records, &mut self.ends, &mut self.starts, block)?;
         Ok(())
     }
+}
+
+/// The place of an end among rising ends.
+fn place_of(ends: &[u64], lsn: u64) -> usize
+    requires rises { RisesFrom 0 ends.now }
+    requires there { contains lsn ends.now ≡ true }
+    ensures inside { result < length ends.now }
+    ensures is { slice_index ends.now result ≡ lsn }
+{
+    match ends.binary_search(&lsn) {
+        Ok(place) => place,
+        Err(_) => unreachable!(),
+    }
+}
+
+/// The records after one LSN and up to another.
+fn copy_records(
+    alloc: Global,
+    records: &[Record],
+    low: u64,
+    high: u64,
+) -> Result<RecordList, NoMemory>
+    requires order { low ≤ high }
+    requires within { high ≤ length records.now }
+    ensures { IfOk result (λ copy. copy ≡ after_to low high records.now) }
+{
+    let copy = records[low as usize..high as usize].to_vec(alloc)?;
+    Ok(ListOf::from_vec(copy))
+}
+
+/// The term of the last of these starts up to an LSN, or 0.
+fn term_of(starts: &[TermStart], last: u64) -> u64
+    ensures { result ≡ term_by last starts.now }
+{
+    for i in (0..starts.len()).rev() {
+        let start = starts[i];
+        if start.lsn <= last {
+            return start.term;
+        }
+    }
+    0
 }
 
 /// Moves a block to the end of the records, with its end and its starts, or leaves all as it was.

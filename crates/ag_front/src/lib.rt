@@ -2,6 +2,8 @@
 //! redo and read one secondary.
 #![tactic(auto)]
 
+pub mod dispatch;
+pub mod fault;
 pub mod front;
 pub mod history;
 pub mod open;
