@@ -9,3 +9,4 @@ mod Grabbing
 mod Copies
 mod Ends
 mod Logging
+mod Applying

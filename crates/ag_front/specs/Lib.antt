@@ -6,3 +6,4 @@ pub mod Opens
 pub mod Slots
 pub mod Closes
 pub mod Fetches
+pub mod Applies

@@ -63,6 +63,7 @@ impl<T: Stands> Front<T> {
             seat,
             done: pass.done,
             turn: pass.turn,
+            pages: pass.pages,
         }
     }
 
@@ -85,7 +86,12 @@ impl<T: Stands> Front<T> {
         ensures known { let both = merged pass.old.seat.me.0 other.seat.me.0 in pass.new.seat.me.0 ≡ after_load both 0 (slice_index pass.new.seat.me.0.floor 0) }
         ensures risen { let both = merged pass.old.seat.me.0 other.seat.me.0 in slice_index both.floor 0 ≤ slice_index pass.new.seat.me.0.floor 0 }
     {
-        let Pass { seat, done, turn } = other;
+        let Pass {
+            seat,
+            done,
+            turn,
+            pages: _,
+        } = other;
         self.table.shared.join_seat::<Merge>(&mut pass.seat, seat);
         raise_all(&mut pass.done, &done);
         raise_all(&mut pass.turn, &turn);

@@ -2,6 +2,7 @@
 //! redo and read one secondary.
 #![tactic(auto)]
 
+pub mod apply;
 pub mod dispatch;
 pub mod fault;
 pub mod front;
@@ -9,6 +10,7 @@ pub mod history;
 pub mod open;
 pub mod passes;
 pub mod plays;
+pub mod read;
 pub mod rule;
 pub mod shared;
 pub mod view;

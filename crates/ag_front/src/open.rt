@@ -22,10 +22,9 @@ pub fn begin_front<T: Stands>(stripes: Vec<T>, log: Log) -> Result<(Front<T>, Pa
     requires stripes { AreStripes T.standing log stripes.items (pages_of T.standing stripes.items) }
     requires none_bad { T.may_be_bad ≡ false }
     ensures own { IfOk result (λ f. f.1.seat.table_id ≡ f.0.table.shared.table_id) }
-    ensures pages { IfOk result (λ f. f.0.pages ≡ pages_of T.standing stripes.items) }
     ensures floors { IfOk result (λ f. OpeningsOf T.standing stripes.items 16 f.1.seat.me.0.floor) }
     ensures dones { IfOk result (λ f. AppliedOf T.standing stripes.items 16 f.1.seat.me.0.done) }
-    ensures view { IfOk result (λ f. f.1.seat.me.0 ≡ starting f.0.pages log f.1.seat.me.0.floor f.1.seat.me.0.done) }
+    ensures view { IfOk result (λ f. f.1.seat.me.0 ≡ starting (pages_of T.standing stripes.items) log f.1.seat.me.0.floor f.1.seat.me.0.done) }
 {
     let alloc = *stripes.allocator();
     let published = openings(stripes.as_slice());
@@ -40,15 +39,12 @@ pub fn begin_front<T: Stands>(stripes: Vec<T>, log: Log) -> Result<(Front<T>, Pa
     let slots = fill(alloc, stripes, log)?;
     match Table::new(alloc, &words_of(&published), slots, &about) {
         Ok((table, seat)) => Ok((
-            Front {
-                table,
-                pages,
-                alloc,
-            },
+            Front { table, alloc },
             Pass {
                 seat,
                 done: applied,
                 turn: [0; 17],
+                pages,
             },
         )),
         Err(_) => Err(NoMemory),

@@ -1,5 +1,5 @@
 //! A front.
-ghost use Rattle.std.specs.Prelude.{◌≡◌, ◌≤◌};
+ghost use Rattle.std.specs.Prelude.{◌≡◌};
 
 use crate::rule::FrontTable;
 use ag_model::stands::Stands;
@@ -9,10 +9,6 @@ use std::alloc::Global;
 #[derive(Drop)]
 pub struct Front<T: Stands> {
     pub table: FrontTable<T>,
-    /// The number of data pages.
-    pub pages: u16,
     pub(crate) alloc: Global,
     pub ghost sized: { (table.shared.table_id.words ≡ 33) × (table.shared.table_id.slots ≡ 17) },
-    pub ghost paged: { pages ≡ table.shared.key.pages },
-    pub ghost some_pages: { 16 ≤ pages },
 }

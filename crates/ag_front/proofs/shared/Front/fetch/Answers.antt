@@ -19,6 +19,8 @@ invariant_of-pass g c = let h = c.take_log.ensures.taken in let p = c.args.pass.
     let some = p.some_part in let q = v.0.parts in record {
       done_is = p.done_is ∙ sym v.0.done;
       turn_is = (λ i. set (p.turn_is i) 16 c.give_log.result) ∙ sym v.2;
+      pages_is = p.pages_is ∙ sym v.0.pages;
+      some_pages = p.some_pages;
       free = v.0.free;
       some_part = omega arith;
     }
