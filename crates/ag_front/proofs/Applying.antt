@@ -75,25 +75,30 @@ module _ {T : Type 0} (standing : T → Standing) where
       ∙ (λ i. (record m.0 { seen = h.has.seen; done = set_twice m.0.done k (standing h.has.stripe).applied a i; turn = set_twice m.0.turn k n n' i; takes = counted_up m.0.takes k; tries = h.tries; hand = 0; at = (standing h.has.stripe).applied }, []))))
 
   -- a stripe was taken, and given back at a
-  pub visited : (k n n' a : ℕ) (m m1 m2 m3 : M) → (h : Took standing k n m m1) → k < 16 → m2 ≡ (m1.0, (k, Away) ∷ rest m1.1) → m3 ≡ (record m2.0 { done = set m2.0.done k a; turn = set m2.0.turn k n'; hand = 0 }, [])
+  pub visited : (k n n' a : ℕ) (m m1 m2 m3 : M) → (h : Took standing k n m m1) → k < 16 → m2 ≡ (m1.0, (k, Away) ∷ rest m1.1) → m3 ≡ (record m2.0 { done = set m2.0.done k a; turn = set m2.0.turn k n'; hand = 0 }, []) → IsSound m3.0
       → StripeVisited k a m m3 × (m3.0.turn ≡ set m.0.turn k n') × (get_or m3.0.done k 0 ≡ a)
-  visited k n n' a m m1 m2 m3 h small p q = let e = after_all k n n' a m m1 m2 m3 h p q in
+  visited k n n' a m m1 m2 m3 h small p q sound = let e = after_all k n n' a m m1 m2 m3 h p q in
       let turn : m3.0.turn ≡ set m.0.turn k n' = λ i. ((e i).0).turn in
       let size : length m.0.turn ≡ 17 = sym (length-set m.0.turn k n) ∙ (sym (λ i. length ((h.has.is i).0).turn) ∙ h.has.sound.sized.turn_size) in
       let dsize : length m.0.done ≡ 16 = sym (length-set m.0.done k (standing h.has.stripe).applied) ∙ (sym (λ i. length ((h.has.is i).0).done) ∙ h.has.sound.sized.done_size) in
-      let at : n' ≡ get_or m3.0.turn k 0 = sym ((λ i. get_or (turn i) k 0) ∙ get_or-set_same m.0.turn k n' 0 (omega arith)) in (record {
-        free = ((λ i. (e i).1), (λ i. ((e i).0).hand));
-        more = subst (λ (x : Log). IsPrefix m.0.seen x) (sym (λ i. ((e i).0).seen)) h.has.more;
-        done = λ i. ((e i).0).done;
-        takes = λ i. ((e i).0).takes;
-        turn = turn ∙ ap (λ (x : ℕ). set m.0.turn k x) at;
-        floor = λ i. ((e i).0).floor;
-        loads = λ i. ((e i).0).loads;
-        olds = λ i. ((e i).0).olds;
-        author = λ i. ((e i).0).author;
-        parts = λ i. ((e i).0).parts;
-        pages = λ i. ((e i).0).pages;
-      }, turn, (λ i. get_or ((e i).0).done k 0) ∙ get_or-set_same m.0.done k a 0 (omega arith))
+      let at : n' ≡ get_or m3.0.turn k 0 = sym ((λ i. get_or (turn i) k 0) ∙ get_or-set_same m.0.turn k n' 0 (omega arith)) in (
+        record {
+          free = ((λ i. (e i).1), (λ i. ((e i).0).hand));
+          more = subst (λ (x : Log). IsPrefix m.0.seen x) (sym (λ i. ((e i).0).seen)) h.has.more;
+          sound = sound;
+          done = λ i. ((e i).0).done;
+          takes = λ i. ((e i).0).takes;
+          turn = turn ∙ ap (λ (x : ℕ). set m.0.turn k x) at;
+          floor = λ i. ((e i).0).floor;
+          loads = λ i. ((e i).0).loads;
+          olds = λ i. ((e i).0).olds;
+          author = λ i. ((e i).0).author;
+          parts = λ i. ((e i).0).parts;
+          pages = λ i. ((e i).0).pages;
+        },
+        turn,
+        (λ i. get_or ((e i).0).done k 0) ∙ get_or-set_same m.0.done k a 0 (omega arith),
+      )
 
   -- the stripe that was taken can be brought through a block that the pass had seen
   pub can_bring : (k n : ℕ) (m m' : M) (t : T) (block : Block) → (h : Took standing k n m m') → h.has.stripe ≡ t → HasBlock m.0.seen block → block.first ≤ get_or m.0.done k 0 + 1
@@ -144,9 +149,9 @@ module _ {T : Type 0} (standing : T → Standing) where
       let own_page : IsPageOf (standing t) (page_of m.0.pages key) = record { low = there.0; high = subst (λ (c : ℕ). page_of m.0.pages key < 16 + c) (sym paged) there.1; stripe = sym own ∙ sym st.numbered } in
       let here : (standing t).value (page_of m.0.pages key) ≡ value (standing t).pages h.has.seen.records (standing t).applied (page_of m.0.pages key) = st.stands.values (page_of m.0.pages key) own_page sound in
       let known : known_value m3.0 key ≡ value m.0.pages h.has.seen.records (standing t).applied (page_of m.0.pages key) =
-          (λ i. value (pages i) (seen i).records (get_or m3.0.done (stripe_of_key (pages i) key) 0) (page_of (pages i) key))
-          ∙ (λ i. value m.0.pages h.has.seen.records (get_or m3.0.done (sym own i) 0) (page_of m.0.pages key))
-          ∙ (λ i. value m.0.pages h.has.seen.records (done i) (page_of m.0.pages key)) in
+      (λ i. value (pages i) (seen i).records (get_or m3.0.done (stripe_of_key (pages i) key) 0) (page_of (pages i) key))
+      ∙ (λ i. value m.0.pages h.has.seen.records (get_or m3.0.done (sym own i) 0) (page_of m.0.pages key))
+      ∙ (λ i. value m.0.pages h.has.seen.records (done i) (page_of m.0.pages key)) in
       (ap (λ (c : ℕ). (standing t).value (page_of c key)) paged ∙ (here ∙ (ap (λ (c : ℕ). value c h.has.seen.records (standing t).applied (page_of m.0.pages key)) paged ∙ sym known)), seen, pages, done)
 
   -- the row that the stripe answers is the one after so many records

@@ -114,8 +114,7 @@ block_there pages log i j lsn last block p next h at is first records =
     let ends : filter (λ e. nat_le e lsn) log.ends ++ last ∷ [] ≡ filter (λ e. nat_le e last) log.ends =
     (λ k. filter (λ e. nat_le e (sym at k)) log.ends ++ (is ∙ at_j) k ∷ []) ∙ sym (next_ends 0 i log.ends p.ends (omega arith)) ∙ (λ k. filter (λ e. nat_le e (sym (is ∙ at_j) k)) log.ends) in
     let whole : with_block (cut_at lsn log) block.records ≡ cut_at last log =
-    λ k. record { records = joined k; ends = (ap (λ (m : ℕ). filter (λ e. nat_le e lsn) log.ends ++ m ∷ []) size ∙ ends) k } in
-    (
+    λ k. record { records = joined k; ends = (ap (λ (m : ℕ). filter (λ e. nat_le e lsn) log.ends ++ m ∷ []) size ∙ ends) k } in (
       record {
         before = cut_at lsn log;
         prefix = prefix_at pages log lsn p e;

@@ -50,8 +50,8 @@ module _ {T : Type 0} (standing : T → Standing) (count : ℕ) where
   others_out s r id v w k n small here held even j l odd = let t = turn_words standing count s.words k n r.laid.wide small in dite (ℕ_discrete j k)
       (λ is. let f : turn_of (set s.words (16 + k) n) j ≡ turn_of (set s.words (16 + k) n) k = ap (turn_of (set s.words (16 + k) n)) is in let g = t.0 in absurd (omega arith))
       (λ not. let o = r.out j l (ap (λ (x : ℕ). x % 2) (sym (t.1 j not)) ∙ odd) in let h = o.2 in
-        let apart : r.holder j ≢ id = λ e. let same : v ≡ o.0 = some-injective v o.0 (sym here ∙ (ap (λ (x : ℕ). get_elem? s.views x) (sym e) ∙ o.1)) in let q : v.hand ≡ o.0.hand = ap (λ (x : View). x.hand) same in not (omega arith) in
-        (o.0, set_else s.views id (r.holder j) w apart ∙ o.1, h))
+      let apart : r.holder j ≢ id = λ e. let same : v ≡ o.0 = some-injective v o.0 (sym here ∙ (ap (λ (x : ℕ). get_elem? s.views x) (sym e) ∙ o.1)) in let q : v.hand ≡ o.0.hand = ap (λ (x : View). x.hand) same in not (omega arith) in
+      (o.0, set_else s.views id (r.holder j) w apart ∙ o.1, h))
 
   -- turn words that only rise
   turns_up : (words xs : List ℕ) (k n : ℕ) → length words ≡ 33 → k < 17 → turn_of words k ≤ n → ((i : ℕ) → i < 17 → get_or xs i 0 ≤ turn_of words i) → (i : ℕ) → i < 17 → get_or xs i 0 ≤ turn_of (set words (16 + k) n) i
@@ -62,6 +62,25 @@ module _ {T : Type 0} (standing : T → Standing) (count : ℕ) where
   turn_set : (words xs : List ℕ) (k n : ℕ) → length words ≡ 33 → length xs ≡ 17 → k < 17 → turn_of words k ≤ n → ((i : ℕ) → i < 17 → get_or xs i 0 ≤ turn_of words i) → (i : ℕ) → i < 17 → get_or (set xs k n) i 0 ≤ turn_of (set words (16 + k) n) i
   turn_set words xs k n wide long small up low i l = let t = turn_words standing count words k n wide small in let g = t.0 in
       set_case (λ (x : ℕ). x ≤ turn_of (set words (16 + k) n) i) xs k n i (omega arith) (λ e. let f : turn_of (set words (16 + k) n) i ≡ turn_of (set words (16 + k) n) k = ap (turn_of (set words (16 + k) n)) e in omega arith) (λ _. turns_up words xs k n wide small up low i l)
+
+  -- a view stays sound where a stripe was given back
+  stripe_sound : (v : View) (k n a : ℕ) (t : T) → k < 16 → IsSound v → StandsAt standing v.pages v.seen k a t → IsSound (record v { done = set v.done k a; turn = set v.turn k n; hand = 0 })
+  stripe_sound v k n a t small ok st = let z = ok.sized in let zd = z.done_size in
+      let end_seen : IsBlockEnd v.seen a = subst (λ (x : ℕ). IsBlockEnd v.seen x) st.at st.stands.applied in record {
+        sized = record {
+          floor_size = z.floor_size;
+          done_size = length-set v.done k a ∙ z.done_size;
+          turn_size = length-set v.turn k n ∙ z.turn_size;
+          takes_size = z.takes_size;
+          tries_size = z.tries_size;
+          loads_size = z.loads_size;
+        };
+        proper = ok.proper;
+        first_old = ok.first_old;
+        second_old = ok.second_old;
+        dones = λ j l. set_case (λ (x : ℕ). IsBlockEnd v.seen x) v.done k a j (omega arith) (λ _. end_seen) (λ _. ok.dones j l);
+        floors = ok.floors;
+      }
 
   given_stripe : (s : St) (r : Rule s) (id : ℕ) (v : View) (k n a : ℕ) (t : T) → k < 16 → get_elem? s.views id ≡ some v → 0 < v.parts → v.hand ≡ k + 1
       → n % 2 ≡ 0 → n < 2 ^ 64 - 1 → turn_of s.words k ≤ n → v.at ≤ a → StandsAt standing v.pages v.seen k a t
@@ -84,30 +103,20 @@ module _ {T : Type 0} (standing : T → Standing) (count : ℕ) where
         published_low = λ j l. let p = tw.2 j l in let q = ok.published_low j l in let u = rise j in omega arith;
         turns_low = λ j l. dite (ℕ_discrete j k) (λ e. let f : turn_of words j ≡ turn_of words k = ap (turn_of words) e in omega arith) (λ other. let p = tw.1 j other in let q = ok.turns_low j l in omega arith);
         stripe_home = λ j l e. dite (ℕ_discrete j k)
-            (λ is. (t, ap (λ (x : ℕ). get_elem? (set s.homes k (some (Stripe t))) x) is ∙ set_here s.homes k (some (Stripe t)) (omega arith), record {
-              numbered = st.numbered ∙ sym is;
-              paged = st.paged ∙ kn.counted;
-              at = st.at ∙ sym (ap at is ∙ here_a);
-              stands = stands_later (standing t) v.seen r.log kn.seen st.stands (end_low v.pages v.seen (standing t).applied kn.sound.proper st.stands.applied);
-            }))
+            (λ is. (
+              t,
+              ap (λ (x : ℕ). get_elem? (set s.homes k (some (Stripe t))) x) is ∙ set_here s.homes k (some (Stripe t)) (omega arith),
+              record {
+                numbered = st.numbered ∙ sym is;
+                paged = st.paged ∙ kn.counted;
+                at = st.at ∙ sym (ap at is ∙ here_a);
+                stands = stands_later (standing t) v.seen r.log kn.seen st.stands (end_low v.pages v.seen (standing t).applied kn.sound.proper st.stands.applied);
+              },
+            ))
             (λ other. let h = ok.stripe_home j l (ap (λ (x : ℕ). x % 2) (sym (tw.1 j other)) ∙ e) in (h.0, set_else s.homes k j (some (Stripe t)) other ∙ h.1, subst (λ (x : ℕ). StandsAt standing count r.log j x h.0) (sym (put_else r.at k a j other)) h.2));
         log_home = λ e. let other : 16 ≢ k = λ q. omega arith in set_else s.homes k 16 (some (Stripe t)) other ∙ ok.log_home (ap (λ (x : ℕ). x % 2) (sym (tw.1 16 other)) ∙ e);
       } record {
-        sound = record {
-          sized = record {
-            floor_size = z.floor_size;
-            done_size = length-set v.done k a ∙ z.done_size;
-            turn_size = length-set v.turn k n ∙ z.turn_size;
-            takes_size = z.takes_size;
-            tries_size = z.tries_size;
-            loads_size = z.loads_size;
-          };
-          proper = kn.sound.proper;
-          first_old = kn.sound.first_old;
-          second_old = kn.sound.second_old;
-          dones = λ j l. set_case (λ (x : ℕ). IsBlockEnd v.seen x) v.done k a j (omega arith) (λ _. end_seen) (λ _. kn.sound.dones j l);
-          floors = kn.sound.floors;
-        };
+        sound = stripe_sound v k n a t small kn.sound st;
         seen = kn.seen;
         some_part = some_part;
         counted = kn.counted;
@@ -149,7 +158,7 @@ module _ {T : Type 0} (standing : T → Standing) (count : ℕ) where
         tt,
         subst (λ (n : ℕ). Rule (stepped s (16 + k) n id ((k, Stripe t) ∷ []) w gives)) is
             (given_stripe s r id v k (x + 1) (standing t).applied t small here some_part held (omega arith) tight (omega arith) more st),
-        λ k' t' e. let o = one_slot k k' (Stripe t) (Stripe t') e in let same : k ≡ k' = o.0 in let same_t : t ≡ t' = cc (o.1) in (low, (λ i. (record v { done = set v.done (same i) (standing (same_t i)).applied; turn = set v.turn (same i) (x + 1); hand = 0 }, [])), subst (λ (j : ℕ). get_or v.turn j 0 ≤ x + 1) same (let q = kn.turns_low k (omega arith) in omega arith)),
+        λ k' t' e. let o = one_slot k k' (Stripe t) (Stripe t') e in let same : k ≡ k' = o.0 in let same_t : t ≡ t' = cc (o.1) in (low, (λ i. (record v { done = set v.done (same i) (standing (same_t i)).applied; turn = set v.turn (same i) (x + 1); hand = 0 }, [])), subst (λ (j : ℕ). get_or v.turn j 0 ≤ x + 1) same (let q = kn.turns_low k (omega arith) in omega arith), stripe_sound v k (x + 1) (standing t).applied t small kn.sound st),
       )
 
   log_sound : (log : Log) (v : View) (l : Log) (n : ℕ) (tries took : List ℕ) → IsProper v.pages l → IsPrefix v.seen l → IsPrefix l log → ((k : ℕ) → k < 16 → IsBlockEnd log (get_or v.floor k 0)) → length tries ≡ 17 → length took ≡ 17 → IsSound v
@@ -175,38 +184,41 @@ module _ {T : Type 0} (standing : T → Standing) (count : ℕ) where
   takes_log slots id me old new some_part free even up low s r _ here _ = let v : View = me.0 in let x : ℕ = turn_of s.words 16 in let kn = r.each id v here some_part in let ok = r.laid in let z = kn.sound.sized in
       dite (ℕ_discrete x old)
       (λ hit. let home = ok.log_home (ap (λ (y : ℕ). y % 2) hit ∙ even) in
-          let w : View = with_log v r.log (set v.turn 16 new) (counted_up v.tries 16) in
-          let odd : new % 2 ≡ 1 = omega arith in let up' : x ≤ new = omega arith in
-          let tw = turn_words standing count s.words 16 new ok.wide (omega arith) in let at_k = tw.0 in
-          let sound : IsSound w = log_sound r.log v r.log new (counted_up v.tries 16) (counted_up v.takes 16) (subst (λ (c : ℕ). IsProper c r.log) (sym kn.counted) ok.proper) kn.seen (prefix_refl count r.log ok.proper) kn.floors (length-set v.tries 16 (get_or v.tries 16 0 + 1) ∙ z.tries_size) (length-set v.takes 16 (get_or v.takes 16 0 + 1) ∙ z.takes_size) kn.sound in
-          let mine : K (set s.words 32 new) r.log r.at (put r.holder 16 id) r.writer id w = record {
+      let w : View = with_log v r.log (set v.turn 16 new) (counted_up v.tries 16) in
+      let odd : new % 2 ≡ 1 = omega arith in let up' : x ≤ new = omega arith in
+      let tw = turn_words standing count s.words 16 new ok.wide (omega arith) in let at_k = tw.0 in
+      let sound : IsSound w = log_sound r.log v r.log new (counted_up v.tries 16) (counted_up v.takes 16) (subst (λ (c : ℕ). IsProper c r.log) (sym kn.counted) ok.proper) kn.seen (prefix_refl count r.log ok.proper) kn.floors (length-set v.tries 16 (get_or v.tries 16 0 + 1) ∙ z.tries_size) (length-set v.takes 16 (get_or v.takes 16 0 + 1) ∙ z.takes_size) kn.sound in
+      let mine : K (set s.words 32 new) r.log r.at (put r.holder 16 id) r.writer id w = record {
+        sound = sound;
+        seen = prefix_refl count r.log ok.proper;
+        some_part = some_part;
+        counted = kn.counted;
+        floors = kn.floors;
+        floors_low = λ j l. let a = tw.2 j l in let b = kn.floors_low j l in omega arith;
+        dones_low = kn.dones_low;
+        turns_low = turn_set s.words v.turn 16 new ok.wide z.turn_size (omega arith) up' kn.turns_low;
+        author = λ e. let a = kn.author e in (a.0, refl);
+        held = λ j l e. let is : j ≡ 16 = omega arith in (ap (λ (y : ℕ). turn_of (set s.words 32 new) y % 2) is ∙ (ap (λ (y : ℕ). y % 2) at_k ∙ odd), ap (put r.holder 16 id) is ∙ put_here r.holder 16 id);
+        held_stripe = λ j l e. absurd (omega arith);
+        held_log = λ e. refl;
+      } in (
+        w,
+        takes 16 (History r.log),
+        home,
+        subst (λ b. Rule (stepped s 32 (either b new x) id me.1 w (takes 16 (History r.log)))) (sym (eq-eqb x old hit))
+            (taken standing count s r id v w 16 new (omega arith) here some_part free refl refl refl odd low (ap (λ (y : ℕ). y % 2) hit ∙ even) up' mine),
+        (
+          (λ _. record {
+            log = r.log;
+            is = refl;
+            more = kn.seen;
+            proper = sound.proper;
+            whole = λ e. (kn.author e).1;
             sound = sound;
-            seen = prefix_refl count r.log ok.proper;
-            some_part = some_part;
-            counted = kn.counted;
-            floors = kn.floors;
-            floors_low = λ j l. let a = tw.2 j l in let b = kn.floors_low j l in omega arith;
-            dones_low = kn.dones_low;
-            turns_low = turn_set s.words v.turn 16 new ok.wide z.turn_size (omega arith) up' kn.turns_low;
-            author = λ e. let a = kn.author e in (a.0, refl);
-            held = λ j l e. let is : j ≡ 16 = omega arith in (ap (λ (y : ℕ). turn_of (set s.words 32 new) y % 2) is ∙ (ap (λ (y : ℕ). y % 2) at_k ∙ odd), ap (put r.holder 16 id) is ∙ put_here r.holder 16 id);
-            held_stripe = λ j l e. absurd (omega arith);
-            held_log = λ e. refl;
-          } in (
-            w,
-            takes 16 (History r.log),
-            home,
-            subst (λ b. Rule (stepped s 32 (either b new x) id me.1 w (takes 16 (History r.log)))) (sym (eq-eqb x old hit))
-                (taken standing count s r id v w 16 new (omega arith) here some_part free refl refl refl odd low (ap (λ (y : ℕ). y % 2) hit ∙ even) up' mine),
-            ((λ _. record {
-              log = r.log;
-              is = refl;
-              more = kn.seen;
-              proper = sound.proper;
-              whole = λ e. (kn.author e).1;
-              sound = sound;
-            }), λ miss. absurd (miss hit)),
-          ))
+          }),
+          λ miss. absurd (miss hit),
+        ),
+      ))
       (λ miss. let w : View = tried v 16 x in let m = missed standing count s r id v 16 (omega arith) here some_part in (
         w,
         keeps,
@@ -231,12 +243,16 @@ module _ {T : Type 0} (standing : T → Standing) (count : ℕ) where
         published_end = λ j l. end_later r.log log (published words j) more (subst (λ (x : ℕ). IsBlockEnd r.log x) (sym (tw.2 j l)) (ok.published_end j l));
         published_low = λ j l. let p = tw.2 j l in let q = ok.published_low j l in omega arith;
         turns_low = λ j l. dite (ℕ_discrete j 16) (λ e. let f : turn_of words j ≡ turn_of words 16 = ap (turn_of words) e in omega arith) (λ other. let p = tw.1 j other in let q = ok.turns_low j l in omega arith);
-        stripe_home = λ j l e. let other : j ≢ 16 = λ q. omega arith in let h = ok.stripe_home j l (ap (λ (x : ℕ). x % 2) (sym (tw.1 j other)) ∙ e) in let st = h.2 in (h.0, set_else s.homes 16 j (some (History log)) other ∙ h.1, record {
-          numbered = st.numbered;
-          paged = st.paged;
-          at = st.at;
-          stands = stands_later (standing h.0) r.log log more st.stands (end_low count r.log (standing h.0).applied ok.proper st.stands.applied);
-        });
+        stripe_home = λ j l e. let other : j ≢ 16 = λ q. omega arith in let h = ok.stripe_home j l (ap (λ (x : ℕ). x % 2) (sym (tw.1 j other)) ∙ e) in let st = h.2 in (
+          h.0,
+          set_else s.homes 16 j (some (History log)) other ∙ h.1,
+          record {
+            numbered = st.numbered;
+            paged = st.paged;
+            at = st.at;
+            stands = stands_later (standing h.0) r.log log more st.stands (end_low count r.log (standing h.0).applied ok.proper st.stands.applied);
+          },
+        );
         log_home = λ e. set_here s.homes 16 (some (History log)) (omega arith);
       } record {
         sound = sound;
@@ -276,9 +292,9 @@ module _ {T : Type 0} (standing : T → Standing) (count : ℕ) where
       let tight : x + 1 < 2 ^ 64 - 1 = omega arith in let whole : v.seen ≡ r.log = kn.held_log held in
       let at_whole : IsProper count v.seen = subst (IsProper count) (sym whole) r.laid.proper in
       let proper : IsProper count log = ⊎_elim (λ (q : log ≡ v.seen). subst (IsProper count) (sym q) at_whole)
-          (λ (q : (v.author ≡ true) × (new : List Record) × (log ≡ with_block v.seen new) × IsProper v.pages log). subst (λ (c : ℕ). IsProper c log) kn.counted q.3) may in
+      (λ (q : (v.author ≡ true) × (new : List Record) × (log ≡ with_block v.seen new) × IsProper v.pages log). subst (λ (c : ℕ). IsProper c log) kn.counted q.3) may in
       let more_v : IsPrefix v.seen log = ⊎_elim (λ (q : log ≡ v.seen). subst (λ (y : Log). IsPrefix v.seen y) (sym q) (prefix_refl count v.seen at_whole))
-          (λ (q : (v.author ≡ true) × (new : List Record) × (log ≡ with_block v.seen new) × IsProper v.pages log). subst (λ (y : Log). IsPrefix v.seen y) (sym q.2) (prefix_more v.pages v.seen q.1 kn.sound.proper (subst (IsProper v.pages) q.2 q.3))) may in
+      (λ (q : (v.author ≡ true) × (new : List Record) × (log ≡ with_block v.seen new) × IsProper v.pages log). subst (λ (y : Log). IsPrefix v.seen y) (sym q.2) (prefix_more v.pages v.seen q.1 kn.sound.proper (subst (IsProper v.pages) q.2 q.3))) may in
       let more : IsPrefix r.log log = subst (λ (y : Log). IsPrefix y log) whole more_v in
       let who : (v.author ≡ true) ⊎ (log ≡ r.log) = ⊎_elim (λ (q : log ≡ v.seen). inr (q ∙ whole)) (λ (q : (v.author ≡ true) × (new : List Record) × (log ≡ with_block v.seen new) × IsProper v.pages log). inl q.0) may in
       let sound : IsSound w = log_sound log v log (x + 1) v.tries v.takes (subst (λ (c : ℕ). IsProper c log) (sym kn.counted) proper) more_v (prefix_refl count log proper) (λ k l. end_later r.log log (get_or v.floor k 0) more (kn.floors k l)) z.tries_size z.takes_size kn.sound in (

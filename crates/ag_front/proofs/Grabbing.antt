@@ -69,10 +69,10 @@ module _ {T : Type 0} where
       let a' = missed_turn k o m1 m' small u in let b' = missed_tries k o m1 m' small u in let up' = u.1 in
       let turn1 : m1.0.turn ≡ set m.0.turn k n = λ i. ((t.0 i).0).turn in let tries1 : m1.0.tries ≡ counted_up m.0.tries k = λ i. ((t.0 i).0).tries in
       let is : m' ≡ (record m.0 { turn = set m.0.turn k o; tries = set m.0.tries k (get_or m1.0.tries k 0 + 1) }, m.1) =
-          u.0 ∙ (λ i. (record ((t.0 i).0) { turn = set (turn1 i) k o; tries = set (tries1 i) k (get_or m1.0.tries k 0 + 1) }, (t.0 i).1))
-          ∙ (λ i. (record m.0 { turn = set_twice m.0.turn k n o i; tries = set_twice m.0.tries k (get_or m.0.tries k 0 + 1) (get_or m1.0.tries k 0 + 1) i }, m.1)) in record {
-    in_hand = λ i. (is i).1;
-    only = only_these k o (get_or m1.0.tries k 0 + 1) m m' is a' b';
-    why = dite (ℕ_discrete (o % 2) 1) (λ odd. inl (ap (λ (x : ℕ). x % 2) (sym a') ∙ odd, omega arith, omega arith))
-        (λ even. let z : o % 2 ≡ 0 = omega arith in inr (inl (ap (λ (x : ℕ). x % 2) (sym a') ∙ z, omega arith, omega arith)));
-  }
+      u.0 ∙ (λ i. (record ((t.0 i).0) { turn = set (turn1 i) k o; tries = set (tries1 i) k (get_or m1.0.tries k 0 + 1) }, (t.0 i).1))
+      ∙ (λ i. (record m.0 { turn = set_twice m.0.turn k n o i; tries = set_twice m.0.tries k (get_or m.0.tries k 0 + 1) (get_or m1.0.tries k 0 + 1) i }, m.1)) in record {
+        in_hand = λ i. (is i).1;
+        only = only_these k o (get_or m1.0.tries k 0 + 1) m m' is a' b';
+        why = dite (ℕ_discrete (o % 2) 1) (λ odd. inl (ap (λ (x : ℕ). x % 2) (sym a') ∙ odd, omega arith, omega arith))
+            (λ even. let z : o % 2 ≡ 0 = omega arith in inr (inl (ap (λ (x : ℕ). x % 2) (sym a') ∙ z, omega arith, omega arith)));
+      }

@@ -70,7 +70,7 @@ module _ {T : Type 0} (standing : T → Standing) (count : ℕ) where
     out = out;
     written = let was = r.written in dite (ℕ_discrete r.writer id)
         (λ is. let same : v ≡ was.0 = some-injective v was.0 (sym here ∙ (ap (λ (x : ℕ). get_elem? s.views x) (sym is) ∙ was.1)) in
-            (w, ap (λ (x : ℕ). get_elem? (set s.views id w) x) is ∙ set_here s.views id w in_range.0, same_author ∙ (ap (λ (x : View). x.author) same ∙ was.2), omega arith))
+        (w, ap (λ (x : ℕ). get_elem? (set s.views id w) x) is ∙ set_here s.views id w in_range.0, same_author ∙ (ap (λ (x : View). x.author) same ∙ was.2), omega arith))
         (λ isnt. (was.0, set_else s.views id r.writer w isnt ∙ was.1, was.2, was.3));
     shared = let e = sum_by-set (λ (x : View). x.parts) s.views id w v in_range.0 in let f : get_or s.views id v ≡ v = in_range.1 v in let g : (get_or s.views id v).parts ≡ v.parts = ap (λ (x : View). x.parts) f in let t = r.shared in omega arith;
   }
@@ -80,7 +80,7 @@ module _ {T : Type 0} (standing : T → Standing) (count : ℕ) where
       → (x : View) × (get_elem? (set s.views id w) (r.holder k) ≡ some x) × (x.hand ≡ k + 1)
   still_out s r id v w here same_hand k small odd = let o = r.out k small odd in dite (ℕ_discrete (r.holder k) id)
       (λ is. let same : v ≡ o.0 = some-injective v o.0 (sym here ∙ (ap (λ (x : ℕ). get_elem? s.views x) (sym is) ∙ o.1)) in
-          (w, ap (λ (x : ℕ). get_elem? (set s.views id w) x) is ∙ set_here s.views id w (there s.views id v here).0, same_hand ∙ (ap (λ (x : View). x.hand) same ∙ o.2)))
+      (w, ap (λ (x : ℕ). get_elem? (set s.views id w) x) is ∙ set_here s.views id w (there s.views id v here).0, same_hand ∙ (ap (λ (x : View). x.hand) same ∙ o.2)))
       (λ isnt. (o.0, set_else s.views id (r.holder k) w isnt ∙ o.1, o.2))
 
   -- a step that changes no word and no slot
@@ -260,16 +260,16 @@ module _ {T : Type 0} (standing : T → Standing) (count : ℕ) where
         laid = r.laid;
         each = λ j u e p. ⊎_elim
             (λ (t : get_elem? (set s.views id left) j ≡ some u). ⊎_elim (λ (q : (j ≡ id) × (left ≡ u)). subst (λ (x : ℕ × View). K s.words r.log r.at r.holder r.writer x.0 x.1) (λ i. (sym q.0 i, q.1 i)) kept)
-              (λ (q : (j ≢ id) × (get_elem? s.views j ≡ some u)). r.each j u q.1 p) (at_set s.views id j left u t))
+            (λ (q : (j ≢ id) × (get_elem? s.views j ≡ some u)). r.each j u q.1 p) (at_set s.views id j left u t))
             (λ (t : right ≡ u). subst (λ (x : View). K s.words r.log r.at r.holder r.writer j x) t (given j)) (at_snoc (set s.views id left) right u j e);
         spent = λ j u e p. ⊎_elim
             (λ (t : get_elem? (set s.views id left) j ≡ some u). ⊎_elim (λ (q : (j ≡ id) × (left ≡ u)). ap (λ (x : View). x.hand) (sym q.1) ∙ free)
-              (λ (q : (j ≢ id) × (get_elem? s.views j ≡ some u)). r.spent j u q.1 p) (at_set s.views id j left u t))
+            (λ (q : (j ≢ id) × (get_elem? s.views j ≡ some u)). r.spent j u q.1 p) (at_set s.views id j left u t))
             (λ (t : right ≡ u). ap (λ (x : View). x.hand) (sym t) ∙ free) (at_snoc (set s.views id left) right u j e);
         out = λ k small odd. let o = still_out s r id v left here refl k small odd in (o.0, at_longer (set s.views id left) (right ∷ []) (r.holder k) o.0 o.1, o.2);
         written = let was = r.written in dite (ℕ_discrete r.writer id)
             (λ is. let same : v ≡ was.0 = some-injective v was.0 (sym here ∙ (ap (λ (x : ℕ). get_elem? s.views x) (sym is) ∙ was.1)) in
-                (left, at_longer (set s.views id left) (right ∷ []) r.writer left (ap (λ (x : ℕ). get_elem? (set s.views id left) x) is ∙ set_here s.views id left inside), ap (λ (x : View). x.author) same ∙ was.2, omega arith))
+            (left, at_longer (set s.views id left) (right ∷ []) r.writer left (ap (λ (x : ℕ). get_elem? (set s.views id left) x) is ∙ set_here s.views id left inside), ap (λ (x : View). x.author) same ∙ was.2, omega arith))
             (λ isnt. (was.0, at_longer (set s.views id left) (right ∷ []) r.writer was.0 (set_else s.views id r.writer left isnt ∙ was.1), was.2, was.3));
         shared = let e = sum_by-set (λ (x : View). x.parts) s.views id left v inside in let g : (get_or s.views id v).parts ≡ v.parts = ap (λ (x : View). x.parts) ((there s.views id v here).1 v) in
             let t = r.shared in let a = sum_by-append (λ (x : View). x.parts) (set s.views id left) (right ∷ []) in omega arith;
@@ -318,9 +318,10 @@ module _ {T : Type 0} (standing : T → Standing) (count : ℕ) where
         held_stripe = λ k _ e. absurd (omega arith);
         held_log = λ e. absurd (omega arith);
       } in
-      let free_other : (k : ℕ) → k < 17 → turn_of s.words k % 2 ≡ 1 → (r.holder k ≢ id) × (r.holder k ≢ other) = λ k l odd. let o = r.out k l odd in let h = o.2 in
-          ((λ is. let same : v ≡ o.0 = some-injective v o.0 (sym here ∙ (ap (λ (x : ℕ). get_elem? s.views x) (sym is) ∙ o.1)) in let q : v.hand ≡ o.0.hand = ap (λ (x : View). x.hand) same in absurd (omega arith)),
-          (λ is. let same : w ≡ o.0 = some-injective w o.0 (sym at_other ∙ (ap (λ (x : ℕ). get_elem? s.views x) (sym is) ∙ o.1)) in let q : w.hand ≡ o.0.hand = ap (λ (x : View). x.hand) same in absurd (omega arith))) in record {
+      let free_other : (k : ℕ) → k < 17 → turn_of s.words k % 2 ≡ 1 → (r.holder k ≢ id) × (r.holder k ≢ other) = λ k l odd. let o = r.out k l odd in let h = o.2 in (
+        (λ is. let same : v ≡ o.0 = some-injective v o.0 (sym here ∙ (ap (λ (x : ℕ). get_elem? s.views x) (sym is) ∙ o.1)) in let q : v.hand ≡ o.0.hand = ap (λ (x : View). x.hand) same in absurd (omega arith)),
+        (λ is. let same : w ≡ o.0 = some-injective w o.0 (sym at_other ∙ (ap (λ (x : ℕ). get_elem? s.views x) (sym is) ∙ o.1)) in let q : w.hand ≡ o.0.hand = ap (λ (x : View). x.hand) same in absurd (omega arith)),
+      ) in record {
         log = r.log;
         at = r.at;
         holder = r.holder;
@@ -328,31 +329,31 @@ module _ {T : Type 0} (standing : T → Standing) (count : ℕ) where
         laid = r.laid;
         each = λ j u e p. ⊎_elim (λ (t : (j ≡ other) × (spent_view ≡ u)). let q : spent_view.parts ≡ u.parts = ap (λ (x : View). x.parts) t.1 in absurd (omega arith))
             (λ (t : (j ≢ other) × (get_elem? vs j ≡ some u)). ⊎_elim (λ (q : (j ≡ id) × (both ≡ u)). subst (λ (x : ℕ × View). K s.words r.log r.at r.holder writer x.0 x.1) (λ i. (sym q.0 i, q.1 i)) mine)
-              (λ (q : (j ≢ id) × (get_elem? s.views j ≡ some u)). let k = r.each j u q.1 p in record {
-                sound = k.sound;
-                seen = k.seen;
-                some_part = k.some_part;
-                counted = k.counted;
-                floors = k.floors;
-                floors_low = k.floors_low;
-                dones_low = k.dones_low;
-                turns_low = k.turns_low;
-                author = λ a. let is = k.author a in (is.0 ∙ sym (moved_not r.writer other id (λ x. t.0 (is.0 ∙ x))), is.1);
-                held = k.held;
-                held_stripe = k.held_stripe;
-                held_log = k.held_log;
-              }) (at_set s.views id j both u t.1)) (at_set vs other j spent_view u e);
+            (λ (q : (j ≢ id) × (get_elem? s.views j ≡ some u)). let k = r.each j u q.1 p in record {
+              sound = k.sound;
+              seen = k.seen;
+              some_part = k.some_part;
+              counted = k.counted;
+              floors = k.floors;
+              floors_low = k.floors_low;
+              dones_low = k.dones_low;
+              turns_low = k.turns_low;
+              author = λ a. let is = k.author a in (is.0 ∙ sym (moved_not r.writer other id (λ x. t.0 (is.0 ∙ x))), is.1);
+              held = k.held;
+              held_stripe = k.held_stripe;
+              held_log = k.held_log;
+            }) (at_set s.views id j both u t.1)) (at_set vs other j spent_view u e);
         spent = λ j u e p. ⊎_elim (λ (t : (j ≡ other) × (spent_view ≡ u)). ap (λ (x : View). x.hand) (sym t.1))
             (λ (t : (j ≢ other) × (get_elem? vs j ≡ some u)). ⊎_elim (λ (q : (j ≡ id) × (both ≡ u)). ap (λ (x : View). x.hand) (sym q.1))
-              (λ (q : (j ≢ id) × (get_elem? s.views j ≡ some u)). r.spent j u q.1 p) (at_set s.views id j both u t.1)) (at_set vs other j spent_view u e);
+            (λ (q : (j ≢ id) × (get_elem? s.views j ≡ some u)). r.spent j u q.1 p) (at_set s.views id j both u t.1)) (at_set vs other j spent_view u e);
         out = λ k l odd. let o = r.out k l odd in let f = free_other k l odd in (o.0, set_else vs other (r.holder k) spent_view f.1 ∙ (set_else s.views id (r.holder k) both f.0 ∙ o.1), o.2);
         written = let was = r.written in dite (ℕ_discrete r.writer other)
             (λ is. let same : w ≡ was.0 = some-injective w was.0 (sym at_other ∙ (ap (λ (x : ℕ). get_elem? s.views x) (sym is) ∙ was.1)) in
-                (both, ap (λ (x : ℕ). get_elem? (set vs other spent_view) x) (moved_to r.writer other id is) ∙ (set_else vs other id spent_view (λ q. apart (sym q)) ∙ set_here s.views id both inside), or_second v.author w.author (ap (λ (x : View). x.author) same ∙ was.2), omega arith))
+            (both, ap (λ (x : ℕ). get_elem? (set vs other spent_view) x) (moved_to r.writer other id is) ∙ (set_else vs other id spent_view (λ q. apart (sym q)) ∙ set_here s.views id both inside), or_second v.author w.author (ap (λ (x : View). x.author) same ∙ was.2), omega arith))
             (λ isnt. dite (ℕ_discrete r.writer id)
-              (λ is. let same : v ≡ was.0 = some-injective v was.0 (sym here ∙ (ap (λ (x : ℕ). get_elem? s.views x) (sym is) ∙ was.1)) in
-                (both, ap (λ (x : ℕ). get_elem? (set vs other spent_view) x) (moved_not r.writer other id isnt ∙ is) ∙ (set_else vs other id spent_view (λ q. apart (sym q)) ∙ set_here s.views id both inside), or_first v.author w.author (ap (λ (x : View). x.author) same ∙ was.2), omega arith))
-              (λ not_id. (was.0, ap (λ (x : ℕ). get_elem? (set vs other spent_view) x) (moved_not r.writer other id isnt) ∙ (set_else vs other r.writer spent_view isnt ∙ (set_else s.views id r.writer both not_id ∙ was.1)), was.2, was.3)));
+            (λ is. let same : v ≡ was.0 = some-injective v was.0 (sym here ∙ (ap (λ (x : ℕ). get_elem? s.views x) (sym is) ∙ was.1)) in
+            (both, ap (λ (x : ℕ). get_elem? (set vs other spent_view) x) (moved_not r.writer other id isnt ∙ is) ∙ (set_else vs other id spent_view (λ q. apart (sym q)) ∙ set_here s.views id both inside), or_first v.author w.author (ap (λ (x : View). x.author) same ∙ was.2), omega arith))
+            (λ not_id. (was.0, ap (λ (x : ℕ). get_elem? (set vs other spent_view) x) (moved_not r.writer other id isnt) ∙ (set_else vs other r.writer spent_view isnt ∙ (set_else s.views id r.writer both not_id ∙ was.1)), was.2, was.3)));
         shared = let a = sum_by-set (λ (x : View). x.parts) s.views id both v inside in let b = sum_by-set (λ (x : View). x.parts) vs other spent_view w inside' in
             let c : (get_or s.views id v).parts ≡ v.parts = ap (λ (x : View). x.parts) ((there s.views id v here).1 v) in
             let d : (get_or vs other w).parts ≡ w.parts = ap (λ (x : View). x.parts) ((there vs other w there').1 w) in let t = r.shared in omega arith;

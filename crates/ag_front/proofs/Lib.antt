@@ -10,3 +10,5 @@ mod Copies
 mod Ends
 mod Logging
 mod Applying
+mod Waits
+mod Closing

@@ -14,6 +14,7 @@ use Rattle.ag_model.proofs.ProperPrefixes.{prefix_more}
 use Rattle.ag_front.specs.declared.view.View.{View}
 use Rattle.ag_front.specs.declared.rule.Slot.{Slot}
 use Rattle.ag_front.specs.declared.rule.Slot.TheVariants.{Stripe, History, Away}
+use Rattle.ag_front.specs.Rule.{IsSound}
 use Rattle.ag_front.specs.Slots.{counted_up, tried, with_log, Missed, HasLog, MayGive, TookLog, Trying, LogVisited}
 use Rattle.ag_front.proofs.Giving.{first_of'}
 use Rattle.ag_front.proofs.Grabbing.{set_twice}
@@ -81,15 +82,16 @@ module _ {T : Type 0} where
       go (Err e) next longer same = subst (λ (x : Log). IsPrefix h.log x) (is ∙ sym same) (prefix_refl m.0.pages h.log h.proper)
 
   pub log_visited : (n n' : ℕ) (m m1 m2 m3 : Me (Slot T) View) (log' : Log) → (h : TookLog n m m1) → m2 ≡ (m1.0, (16, Away) ∷ rest m1.1) → IsPrefix h.log log'
-      → m3 ≡ (record m2.0 { seen = log'; turn = set m2.0.turn 16 n'; hand = 0 }, []) → LogVisited m m3 × (m3.0.seen ≡ log') × (m3.0.turn ≡ set m.0.turn 16 n')
-  log_visited n n' m m1 m2 m3 log' h p further q =
+      → m3 ≡ (record m2.0 { seen = log'; turn = set m2.0.turn 16 n'; hand = 0 }, []) → IsSound m3.0 → LogVisited m m3 × (m3.0.seen ≡ log') × (m3.0.turn ≡ set m.0.turn 16 n')
+  log_visited n n' m m1 m2 m3 log' h p further q sound =
       let e : m3 ≡ (record m.0 { seen = log'; turn = set m.0.turn 16 n'; takes = counted_up m.0.takes 16; tries = h.tries; hand = 0; at = end_of h.log }, []) = q
-          ∙ ((λ i. (record ((p i).0) { seen = log'; turn = set ((p i).0).turn 16 n'; hand = 0 }, []))
-          ∙ ((λ i. (record ((h.is i).0) { seen = log'; turn = set ((h.is i).0).turn 16 n'; hand = 0 }, []))
-          ∙ (λ i. (record m.0 { seen = log'; turn = set_twice m.0.turn 16 n n' i; takes = counted_up m.0.takes 16; tries = h.tries; hand = 0; at = end_of h.log }, [])))) in (
+      ∙ ((λ i. (record ((p i).0) { seen = log'; turn = set ((p i).0).turn 16 n'; hand = 0 }, []))
+      ∙ ((λ i. (record ((h.is i).0) { seen = log'; turn = set ((h.is i).0).turn 16 n'; hand = 0 }, []))
+      ∙ (λ i. (record m.0 { seen = log'; turn = set_twice m.0.turn 16 n n' i; takes = counted_up m.0.takes 16; tries = h.tries; hand = 0; at = end_of h.log }, [])))) in (
         record {
           free = ((λ i. (e i).1), (λ i. ((e i).0).hand));
           more = subst (λ (x : Log). IsPrefix m.0.seen x) (sym (λ i. ((e i).0).seen)) (prefix_trans m.0.seen h.log log' h.more further);
+          sound = sound;
           takes = λ i. ((e i).0).takes;
           turns = λ k l. (λ i. get_or ((e i).0).turn k 0) ∙ get_or-set_other m.0.turn 16 k n' 0 (λ q. omega arith);
           floor = λ i. ((e i).0).floor;
@@ -106,5 +108,5 @@ module _ {T : Type 0} where
 
   -- the log was given back as it was
   pub log_visited_same : (n n' : ℕ) (m m1 m2 m3 : Me (Slot T) View) (log : Log) → (h : TookLog n m m1) → h.log ≡ log → m2 ≡ (m1.0, (16, Away) ∷ rest m1.1)
-      → m3 ≡ (record m2.0 { seen = log; turn = set m2.0.turn 16 n'; hand = 0 }, []) → LogVisited m m3 × (m3.0.seen ≡ log) × (m3.0.turn ≡ set m.0.turn 16 n')
-  log_visited_same n n' m m1 m2 m3 log h is p q = log_visited n n' m m1 m2 m3 log h p (subst (λ (x : Log). IsPrefix h.log x) is (prefix_refl m.0.pages h.log h.proper)) q
+      → m3 ≡ (record m2.0 { seen = log; turn = set m2.0.turn 16 n'; hand = 0 }, []) → IsSound m3.0 → LogVisited m m3 × (m3.0.seen ≡ log) × (m3.0.turn ≡ set m.0.turn 16 n')
+  log_visited_same n n' m m1 m2 m3 log h is p q sound = log_visited n n' m m1 m2 m3 log h p (subst (λ (x : Log). IsPrefix h.log x) is (prefix_refl m.0.pages h.log h.proper)) q sound

@@ -54,7 +54,7 @@ module _ {T : Type 0} (standing : T → Standing) where
       let zero_turn : (k : ℕ) → k < 17 → turn_of ws k ≡ 0 = words.turns in
       let end_x : (k : ℕ) → k < 16 → IsBlockEnd log (get_or xs k 0) = λ k l. let t = place ts k (omega arith) in subst (λ (n : ℕ). IsBlockEnd log n) (sym (xis k l t.0 t.1).0) (all.ends k t.0 t.1) in
       let end_y : (k : ℕ) → k < 16 → IsBlockEnd log (get_or ys k 0) = λ k l. let t = place ts k (omega arith) in let h = all.each k t.0 t.1 in
-          subst (λ (n : ℕ). IsBlockEnd log n) (sym (yis k l t.0 t.1)) h.stands.applied in
+      subst (λ (n : ℕ). IsBlockEnd log n) (sym (yis k l t.0 t.1)) h.stands.applied in
       let low : (k : ℕ) → k < 16 → get_or xs k 0 ≤ get_or ys k 0 = λ k l. let t = place ts k (omega arith) in let a = xis k l t.0 t.1 in let b = yis k l t.0 t.1 in let c = a.0 in let d = a.1 in omega arith in
       let sound : IsSound v = first_sound log ts count xs ys proper all xsize ysize xis yis in record {
         log = log;

@@ -133,10 +133,10 @@ module _ {T : Type 0} (standing : T → Standing) (count : ℕ) where
         held_log = kn.held_log;
       })
       (λ j l odd'. dite (ℕ_discrete j k)
-        (λ is. (w, ap (λ (x : ℕ). get_elem? (set s.views id w) (put r.holder k id x)) is ∙ (ap (λ (x : ℕ). get_elem? (set s.views id w) x) (put_here r.holder k id) ∙ set_here s.views id w inside), in_hand ∙ ap (λ (x : ℕ). x + 1) (sym is)))
-        (λ not. let o = r.out j l (ap (λ (x : ℕ). x % 2) (sym (t.1 j not)) ∙ odd') in let h = o.2 in
-          let apart : r.holder j ≢ id = λ e. let same : v ≡ o.0 = some-injective v o.0 (sym here ∙ (ap (λ (x : ℕ). get_elem? s.views x) (sym e) ∙ o.1)) in let q : v.hand ≡ o.0.hand = ap (λ (x : View). x.hand) same in absurd (omega arith) in
-          (o.0, ap (λ (x : ℕ). get_elem? (set s.views id w) x) (put_else r.holder k id j not) ∙ (set_else s.views id (r.holder j) w apart ∙ o.1), h)))
+      (λ is. (w, ap (λ (x : ℕ). get_elem? (set s.views id w) (put r.holder k id x)) is ∙ (ap (λ (x : ℕ). get_elem? (set s.views id w) x) (put_here r.holder k id) ∙ set_here s.views id w inside), in_hand ∙ ap (λ (x : ℕ). x + 1) (sym is)))
+      (λ not. let o = r.out j l (ap (λ (x : ℕ). x % 2) (sym (t.1 j not)) ∙ odd') in let h = o.2 in
+      let apart : r.holder j ≢ id = λ e. let same : v ≡ o.0 = some-injective v o.0 (sym here ∙ (ap (λ (x : ℕ). get_elem? s.views x) (sym e) ∙ o.1)) in let q : v.hand ≡ o.0.hand = ap (λ (x : View). x.hand) same in absurd (omega arith) in
+      (o.0, ap (λ (x : ℕ). get_elem? (set s.views id w) x) (put_else r.holder k id j not) ∙ (set_else s.views id (r.holder j) w apart ∙ o.1), h)))
 
   -- the prefix of the log for which the stripe k stands
   abbrev part : Log → (ℕ → ℕ) → ℕ → Log
@@ -189,36 +189,36 @@ module _ {T : Type 0} (standing : T → Standing) (count : ℕ) where
   takes_stripe slots id me k old new small some_part free even up low s r _ here _ = let v : View = me.0 in let x : ℕ = turn_of s.words k in let kn = r.each id v here some_part in let ok = r.laid in let z = kn.sound.sized in
       dite (ℕ_discrete x old)
       (λ hit. let home = ok.stripe_home k small (ap (λ (y : ℕ). y % 2) hit ∙ even) in let t : T = home.0 in let st = home.2 in
-          let seen : Log = longer v.seen (part r.log r.at k) in
-          let w : View = with_stripe v k seen (r.at k) (set v.turn k new) (counted_up v.tries k) in
-          let odd : new % 2 ≡ 1 = omega arith in
-          let mine = stripe_mine s r id v k new small here some_part free odd (omega arith) (set v.turn k new) (counted_up v.tries k) refl (length-set v.tries k (get_or v.tries k 0 + 1) ∙ z.tries_size) in
-          let begins = prefix_at count r.log (r.at k) ok.proper (ok.ends k small) in
-          let from_t : IsPrefix (part r.log r.at k) seen = longer_second v.seen (part r.log r.at k) r.log kn.seen begins in
-          let reach = prefix_length (part r.log r.at k) seen from_t in let long = cut_length count r.log (r.at k) ok.proper (ok.ends k small) in
-          let at_is = st.at in let fl = kn.floors_low k small in let pl = ok.published_low k small in let dl = kn.dones_low k small in
-          let has : HasStripe standing k me (set v.turn k new) (counted_up v.tries k) (w, (k, Stripe t) ∷ me.1) = record {
-            seen = seen;
-            stripe = t;
-            is = λ i. (with_stripe v k seen (sym at_is i) (set v.turn k new) (counted_up v.tries k), (k, Stripe t) ∷ me.1);
-            more = longer_first v.seen (part r.log r.at k) r.log kn.seen begins;
-            stands = record {
-              numbered = st.numbered;
-              paged = st.paged ∙ sym kn.counted;
-              at = refl;
-              stands = stands_earlier (standing t) seen r.log mine.seen st.stands (omega arith);
-            };
-            floor = omega arith;
-            done = omega arith;
-            sound = mine.sound;
-          } in (
-            w,
-            takes k (Stripe t),
-            home.1,
-            subst (λ b. Rule (stepped s (16 + k) (either b new x) id me.1 w (takes k (Stripe t)))) (sym (eq-eqb x old hit))
-                (taken s r id v w k new (omega arith) here some_part free refl refl refl odd low (ap (λ (y : ℕ). y % 2) hit ∙ even) (omega arith) mine),
-            λ k' e. let back : k ≡ k' = omega arith in ((λ _. subst (λ (j : ℕ). HasStripe standing j me (set v.turn j new) (counted_up v.tries j) (w, (k, Stripe t) ∷ me.1)) back has), λ miss. absurd (miss hit)),
-          ))
+      let seen : Log = longer v.seen (part r.log r.at k) in
+      let w : View = with_stripe v k seen (r.at k) (set v.turn k new) (counted_up v.tries k) in
+      let odd : new % 2 ≡ 1 = omega arith in
+      let mine = stripe_mine s r id v k new small here some_part free odd (omega arith) (set v.turn k new) (counted_up v.tries k) refl (length-set v.tries k (get_or v.tries k 0 + 1) ∙ z.tries_size) in
+      let begins = prefix_at count r.log (r.at k) ok.proper (ok.ends k small) in
+      let from_t : IsPrefix (part r.log r.at k) seen = longer_second v.seen (part r.log r.at k) r.log kn.seen begins in
+      let reach = prefix_length (part r.log r.at k) seen from_t in let long = cut_length count r.log (r.at k) ok.proper (ok.ends k small) in
+      let at_is = st.at in let fl = kn.floors_low k small in let pl = ok.published_low k small in let dl = kn.dones_low k small in
+      let has : HasStripe standing k me (set v.turn k new) (counted_up v.tries k) (w, (k, Stripe t) ∷ me.1) = record {
+        seen = seen;
+        stripe = t;
+        is = λ i. (with_stripe v k seen (sym at_is i) (set v.turn k new) (counted_up v.tries k), (k, Stripe t) ∷ me.1);
+        more = longer_first v.seen (part r.log r.at k) r.log kn.seen begins;
+        stands = record {
+          numbered = st.numbered;
+          paged = st.paged ∙ sym kn.counted;
+          at = refl;
+          stands = stands_earlier (standing t) seen r.log mine.seen st.stands (omega arith);
+        };
+        floor = omega arith;
+        done = omega arith;
+        sound = mine.sound;
+      } in (
+        w,
+        takes k (Stripe t),
+        home.1,
+        subst (λ b. Rule (stepped s (16 + k) (either b new x) id me.1 w (takes k (Stripe t)))) (sym (eq-eqb x old hit))
+            (taken s r id v w k new (omega arith) here some_part free refl refl refl odd low (ap (λ (y : ℕ). y % 2) hit ∙ even) (omega arith) mine),
+        λ k' e. let back : k ≡ k' = omega arith in ((λ _. subst (λ (j : ℕ). HasStripe standing j me (set v.turn j new) (counted_up v.tries j) (w, (k, Stripe t) ∷ me.1)) back has), λ miss. absurd (miss hit)),
+      ))
       (λ miss. let w : View = tried v k x in let m = missed s r id v k (omega arith) here some_part in (
         w,
         keeps,

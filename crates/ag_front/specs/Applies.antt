@@ -13,7 +13,7 @@ use Rattle.ag_model.specs.Stripes.{Standing}
 use Rattle.ag_front.specs.declared.fault.FrontReadFault.{FrontReadFault}
 use Rattle.ag_front.specs.declared.fault.FrontReadFault.TheVariants.{Busy, TooOld as IsOld}
 use Rattle.ag_front.specs.declared.view.View.{View}
-use Rattle.ag_front.specs.Rule.{StandsAt}
+use Rattle.ag_front.specs.Rule.{IsSound, StandsAt}
 use Rattle.ag_front.specs.Slots.{counted_up, IsBusy}
 use Rattle.ag_front.specs.Steps.{Hold}
 
@@ -37,6 +37,7 @@ module _ {T : Type 0} where
   pub record StripeVisited (k n : ℕ) (m m' : Hold T) : Type 0 where
     pub free : (m'.1 ≡ []) × (m'.0.hand ≡ 0)
     pub more : IsPrefix m.0.seen m'.0.seen
+    pub sound : IsSound m'.0
     pub done : m'.0.done ≡ slice_set m.0.done k n
     pub takes : m'.0.takes ≡ counted_up m.0.takes k
     pub turn : m'.0.turn ≡ slice_set m.0.turn k (slice_index m'.0.turn k)
@@ -72,3 +73,15 @@ module _ {T : Type 0} where
   IsReadFault key at m m' Busy = IsBusy (stripe_of_key m.0.pages key) m m'
   IsReadFault key at m m' (IsOld e) =
       IsTooOld m'.0 key at e × StripeVisited (stripe_of_key m.0.pages key) (slice_index m'.0.done (stripe_of_key m.0.pages key)) m m'
+
+  -- a call read a row of stripe k at a front that it loaded, and the pass holds nothing
+  pub record RowVisited (k : ℕ) (m m' : Hold T) : Type 0 where
+    pub free : (m'.1 ≡ []) × (m'.0.hand ≡ 0)
+    pub more : IsPrefix m.0.seen m'.0.seen
+    pub sound : IsSound m'.0
+    pub done : m'.0.done ≡ slice_set m.0.done k (slice_index m'.0.done k)
+    pub takes : m'.0.takes ≡ counted_up m.0.takes k
+    pub olds : m'.0.olds ≡ m.0.olds
+    pub author : m'.0.author ≡ m.0.author
+    pub parts : m'.0.parts ≡ m.0.parts
+    pub pages : m'.0.pages ≡ m.0.pages

@@ -33,3 +33,10 @@ pub record Loading (n low : ℕ) (v w : View) : Type 0 where
   pub no_lower : NoLower v.floor w.floor
   pub more : Loaded n v.loads w.loads
   pub no_fewer : (k : ℕ) → k < 16 → slice_index v.loads k ≤ slice_index w.loads k
+
+-- the front was loaded, it is `at`, and since then only tries were made on turn words
+pub record Waiting (at : ℕ) (v w : View) : Type 0 where
+  pub only : w ≡ record v { floor = w.floor; loads = w.loads; turn = w.turn; tries = w.tries }
+  pub front : at ≡ least w.floor
+  pub no_lower : least v.floor ≤ least w.floor
+  pub more : Loaded 16 v.loads w.loads

@@ -67,7 +67,7 @@ module _ {T : Type 0} (standing : T → Standing) where
 
   -- the stripe that the pass holds goes home, further on
   abbrev pub stripe_given : Step (Slot T) → Hold T → ℕ → Hold T → Type 0
-  stripe_given st m n m' = (k : ℕ) (t : T) → m.1 ≡ (k, Stripe t) ∷ [] → (n < 2 ^ 64 - 1) × (m' ≡ (record m.0 { done = slice_set m.0.done k (standing t).applied; turn = slice_set m.0.turn k (n + 1); hand = 0 }, [])) × (slice_index m.0.turn k ≤ n + 1)
+  stripe_given st m n m' = (k : ℕ) (t : T) → m.1 ≡ (k, Stripe t) ∷ [] → (n < 2 ^ 64 - 1) × (m' ≡ (record m.0 { done = slice_set m.0.done k (standing t).applied; turn = slice_set m.0.turn k (n + 1); hand = 0 }, [])) × (slice_index m.0.turn k ≤ n + 1) × IsSound m'.0
 
 module _ {T : Type 0} where
   pub record HasLog (m : Hold T) (turn tries : List ℕ) (m' : Hold T) : Type 0 where
@@ -120,6 +120,7 @@ module _ {T : Type 0} where
   pub record LogVisited (m m' : Hold T) : Type 0 where
     pub free : (m'.1 ≡ []) × (m'.0.hand ≡ 0)
     pub more : IsPrefix m.0.seen m'.0.seen
+    pub sound : IsSound m'.0
     pub takes : m'.0.takes ≡ counted_up m.0.takes 16
     pub turns : (k : ℕ) → k < 16 → slice_index m'.0.turn k ≡ slice_index m.0.turn k
     pub floor : m'.0.floor ≡ m.0.floor

@@ -3,7 +3,7 @@ ghost use Rattle.std.specs.Prelude.{◌≡◌, ◌≤◌, ◌<◌, ◌+◌, [], 
 ghost use Rattle.ag_model.specs.declared.record.Log.{Log};
 ghost use Rattle.ag_model.specs.Prefixes.{HasBlock};
 ghost use Rattle.ag_front.specs.declared.rule.Slot.TheVariants.{Away};
-ghost use Rattle.ag_front.specs.Rule.{StandsAt};
+ghost use Rattle.ag_front.specs.Rule.{IsSound, StandsAt};
 ghost use Rattle.ag_front.specs.Slots.{IsBusy, Took};
 ghost use Rattle.ag_front.specs.Applies.{CanBring, IsBrought, StripeVisited};
 
@@ -61,7 +61,12 @@ fn bring_on<T: Steps>(value: &mut T, block: &Block)
 
 impl<T: Stands> Front<T> {
     /// Whether the stripe was taken, and the turn word that was found last or is now.
-    pub(crate) fn grab_stripe(&self, seat: &mut FrontSeat<T>, stripe: usize, turn: u64) -> (bool, u64)
+    pub(crate) fn grab_stripe(
+        &self,
+        seat: &mut FrontSeat<T>,
+        stripe: usize,
+        turn: u64,
+    ) -> (bool, u64)
         requires own { (seat.old.table_id ≡ self.now.table.shared.table_id) × (stripe < 16) × (turn ≡ slice_index seat.old.me.0.turn stripe) }
         requires free { (seat.old.me.1 ≡ []) × (seat.old.me.0.hand ≡ 0) × (0 < seat.old.me.0.parts) }
         ensures own { (seat.new.table_id ≡ seat.old.table_id) × (seat.new.id ≡ seat.old.id) }
@@ -96,6 +101,7 @@ impl<T: Stands> Front<T> {
         ensures own { (seat.new.table_id ≡ seat.old.table_id) × (seat.new.id ≡ seat.old.id) }
         ensures home { seat.new.me ≡ (record seat.old.me.0 { done = slice_set seat.old.me.0.done stripe (T.standing value).applied; turn = slice_set seat.old.me.0.turn stripe result; hand = 0 }, []) }
         ensures turn { slice_index seat.old.me.0.turn stripe ≤ result }
+        ensures sound { IsSound seat.new.me.0 }
     {
         let shared = &self.table.shared;
         let left = shared.exchange(seat, stripe, Slot::Stripe(value));

@@ -4,6 +4,7 @@ ghost use Rattle.ag_model.specs.Blocks.{with_block};
 ghost use Rattle.ag_model.specs.Prefixes.{end_of};
 ghost use Rattle.ag_model.specs.Proper.{IsProper};
 ghost use Rattle.ag_front.specs.declared.rule.Slot.TheVariants.{Away};
+ghost use Rattle.ag_front.specs.Rule.{IsSound};
 ghost use Rattle.ag_front.specs.Fetches.{IsDispatchFault, IsFetched};
 ghost use Rattle.ag_front.specs.Slots.{MayGive, TookLog, Trying, LogVisited};
 
@@ -43,10 +44,7 @@ impl<T: Stands> Front<T> {
         ensures fault { IfErr result (IsDispatchFault block.first (end_of pass.old.seat.me.0.seen)) }
     {
         self.take_log(rt, &mut pass.seat, pass.turn[16]);
-        let slot = self
-            .table
-            .shared
-            .exchange(&mut pass.seat, 16, Slot::Away);
+        let slot = self.table.shared.exchange(&mut pass.seat, 16, Slot::Away);
         let Slot::History(mut log) = slot else {
             unreachable!()
         };
@@ -70,10 +68,7 @@ impl<T: Stands> Front<T> {
     {
         let done = pass.done[usize::from(stripe)];
         self.take_log(rt, &mut pass.seat, pass.turn[16]);
-        let slot = self
-            .table
-            .shared
-            .exchange(&mut pass.seat, 16, Slot::Away);
+        let slot = self.table.shared.exchange(&mut pass.seat, 16, Slot::Away);
         let Slot::History(log) = slot else {
             unreachable!()
         };
@@ -114,6 +109,7 @@ impl<T: Stands> Front<T> {
         requires log { MayGive seat.old.me.0 log }
         ensures own { (seat.new.table_id ≡ seat.old.table_id) × (seat.new.id ≡ seat.old.id) }
         ensures home { seat.new.me ≡ (record seat.old.me.0 { seen = log; turn = slice_set seat.old.me.0.turn 16 result; hand = 0 }, []) }
+        ensures sound { IsSound seat.new.me.0 }
     {
         let shared = &self.table.shared;
         let left = shared.exchange(seat, 16, Slot::History(log));

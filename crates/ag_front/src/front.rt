@@ -5,8 +5,8 @@ ghost use Rattle.ag_front.specs.Rule.{least};
 ghost use Rattle.ag_front.specs.Steps.{after_raise, after_load, kept_part, given_part, merged, maxes};
 ghost use Rattle.ag_front.specs.Passes.{OnlyFloors, Loaded};
 
-use crate::plays::{Count, Cut, Load, Merge, Raise};
 use crate::passes::Pass;
+use crate::plays::{Count, Cut, Load, Merge, Raise};
 use crate::shared::Front;
 use ag_model::stands::Stands;
 use std::marker::Brand;

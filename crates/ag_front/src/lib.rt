@@ -3,6 +3,7 @@
 #![tactic(auto)]
 
 pub mod apply;
+pub mod close;
 pub mod dispatch;
 pub mod fault;
 pub mod front;

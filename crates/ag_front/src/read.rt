@@ -3,7 +3,7 @@ ghost use Rattle.std.specs.Prelude.{◌≡◌, ◌≤◌, ◌<◌, ◌+◌, ◌%
 ghost use Rattle.ag_model.specs.Prefixes.{IsBlockEnd};
 ghost use Rattle.ag_front.specs.Rule.{least};
 ghost use Rattle.ag_front.specs.Passes.{Loaded};
-ghost use Rattle.ag_front.specs.Applies.{StripeVisited, stripe_of_key, IsRowAt, IsTooOld, IsReadFault};
+ghost use Rattle.ag_front.specs.Applies.{StripeVisited, RowVisited, stripe_of_key, IsRowAt, IsTooOld, IsReadFault};
 
 use crate::fault::FrontReadFault;
 use crate::passes::Pass;
@@ -45,6 +45,31 @@ impl<T: Steps> Front<T> {
             Ok(row) => Ok(row),
             Err(fault) => Err(FrontReadFault::TooOld(fault)),
         }
+    }
+}
+
+impl<T: Steps> Front<T> {
+    /// The front, and the row of a key there. It waits for whoever has the key's stripe.
+    pub fn read<R: Wait>(&self, rt: &R, pass: &mut Pass<T>, key: u32) -> Result<(u64, Row), TooOld>
+        requires own { pass.old.seat.table_id ≡ self.now.table.shared.table_id }
+        ensures own { (pass.new.seat.table_id ≡ pass.old.seat.table_id) × (pass.new.seat.id ≡ pass.old.seat.id) }
+        ensures visited { RowVisited (stripe_of_key pass.old.seat.me.0.pages key) pass.old.seat.me pass.new.seat.me }
+        ensures loads { Loaded 16 pass.old.seat.me.0.loads pass.new.seat.me.0.loads }
+        ensures seen_before { least pass.old.seat.me.0.floor ≤ least pass.new.seat.me.0.floor }
+        ensures front { IfOk result (λ r. r.0 ≡ least pass.new.seat.me.0.floor) }
+        ensures end { IfOk result (λ r. IsBlockEnd pass.new.seat.me.0.seen r.0) }
+        ensures row { IfOk result (λ r. IsRowAt pass.new.seat.me.0 key r.0 r.1) }
+        ensures too_old { IfErr result (IsTooOld pass.new.seat.me.0 key (least pass.new.seat.me.0.floor)) }
+    {
+        let at = self.front(pass);
+        for _ in rt.forever() {
+            match self.try_read(pass, key, at) {
+                Ok(row) => return Ok((at, row)),
+                Err(FrontReadFault::TooOld(fault)) => return Err(fault),
+                Err(FrontReadFault::Busy) => thread::yield_now(),
+            }
+        }
+        unreachable!()
     }
 }
 

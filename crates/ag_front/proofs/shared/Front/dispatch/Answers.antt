@@ -17,4 +17,4 @@ pub returns-clause-visited : goal.returns-clause-visited
 returns-clause-visited g c = let h = c.take_log.ensures.taken in let m = c.args.pass.now.seat.me in let e = c.add-added.ensures in
     let is = log_in_hand c.take_log.result m c.take_log.new.seat.me c.exchange-slot.result c.in-History.log h c.exchange-slot.ensures.2 c.in-History.is in
     let further = log_further c.take_log.result m c.take_log.new.seat.me c.in-History.log c.add-added.new.self c.args.block.records c.args.block.first c.add-added.result h is c.requires.author c.requires.block e.next e.ok e.err in
-    (log_visited c.take_log.result c.give_log.result m c.take_log.new.seat.me c.exchange-slot.new.seat.me c.give_log.new.seat.me c.add-added.new.self h c.exchange-slot.ensures.3 further c.give_log.ensures.home).0
+    (log_visited c.take_log.result c.give_log.result m c.take_log.new.seat.me c.exchange-slot.new.seat.me c.give_log.new.seat.me c.add-added.new.self h c.exchange-slot.ensures.3 further c.give_log.ensures.home c.give_log.ensures.sound).0

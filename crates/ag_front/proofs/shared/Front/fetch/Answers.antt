@@ -15,7 +15,7 @@ exchange-slot-requires g c = let h = c.take_log.ensures.taken in let S : Type 0 
 pub invariant_of-pass : goal.invariant_of-pass
 invariant_of-pass g c = let h = c.take_log.ensures.taken in let p = c.args.pass.now in
     let is = log_in_hand c.take_log.result p.seat.me c.take_log.new.seat.me c.exchange-slot.result c.in-History.log h c.exchange-slot.ensures.2 c.in-History.is in
-    let v = log_visited_same c.take_log.result c.give_log.result p.seat.me c.take_log.new.seat.me c.exchange-slot.new.seat.me c.give_log.new.seat.me c.in-History.log h is c.exchange-slot.ensures.3 c.give_log.ensures.home in
+    let v = log_visited_same c.take_log.result c.give_log.result p.seat.me c.take_log.new.seat.me c.exchange-slot.new.seat.me c.give_log.new.seat.me c.in-History.log h is c.exchange-slot.ensures.3 c.give_log.ensures.home c.give_log.ensures.sound in
     let some = p.some_part in let q = v.0.parts in record {
       done_is = p.done_is ∙ sym v.0.done;
       turn_is = (λ i. set (p.turn_is i) 16 c.give_log.result) ∙ sym v.2;

@@ -31,3 +31,8 @@ returns-clause-turn g c = let S : Type 0 = Slot g.row.T.Denot in let k : ℕ = c
     let q : c.exchange-left.new.seat.me.1 ≡ (k, Stripe c.args.value) ∷ [] = (λ i. (c.exchange-left.ensures.3 i).1) ∙ ap (λ (l : List (ℕ × S)). (k, Stripe c.args.value) ∷ rest l) c.requires.held.0 in
     let up = (c.fetch_add-found.ensures.2 k c.args.value q).2 in
     let same : get_or c.exchange-left.new.seat.me.0.turn k 0 ≡ get_or c.args.seat.now.me.0.turn k 0 = λ i. get_or ((c.exchange-left.ensures.3 i).0).turn k 0 in omega arith
+
+pub returns-clause-sound : goal.returns-clause-sound
+returns-clause-sound g c = let S : Type 0 = Slot g.row.T.Denot in let k : ℕ = c.args.stripe in
+    let q : c.exchange-left.new.seat.me.1 ≡ (k, Stripe c.args.value) ∷ [] = (λ i. (c.exchange-left.ensures.3 i).1) ∙ ap (λ (l : List (ℕ × S)). (k, Stripe c.args.value) ∷ rest l) c.requires.held.0 in
+    (c.fetch_add-found.ensures.2 k c.args.value q).3

@@ -24,7 +24,7 @@ pub returns-then-again-found-clause-turn : goal.returns-then-again-found-clause-
 returns-then-again-found-clause-turn g c = let missed = (c.compare_exchange-found.ensures.2 c.args.stripe refl).1 c.if-found-start.false in
     let has = (c.compare_exchange-again.ensures.2 c.args.stripe refl).0 c.if-again-found.true in let even = c.if-found-eq1.false in let small = c.requires.own.1 in
     took_turn _ c.args.stripe (c.compare_exchange-found.result + 1) c.args.seat.now.me c.compare_exchange-again.new.seat.me (omega arith)
-      (took_second _ c.args.stripe c.compare_exchange-found.result c.args.seat.now.me c.compare_exchange-found.new.seat.me c.compare_exchange-again.new.seat.me (omega arith) missed.0 has)
+    (took_second _ c.args.stripe c.compare_exchange-found.result c.args.seat.now.me c.compare_exchange-found.new.seat.me c.compare_exchange-again.new.seat.me (omega arith) missed.0 has)
 
 pub returns-clause-turn : goal.returns-clause-turn
 returns-clause-turn g c = let missed = (c.compare_exchange-again.ensures.2 c.args.stripe refl).1 c.if-again-found.false in let small = c.requires.own.1 in
@@ -34,4 +34,4 @@ pub returns-clause-busy : goal.returns-clause-busy
 returns-clause-busy g c = let missed = (c.compare_exchange-found.ensures.2 c.args.stripe refl).1 c.if-found-start.false in let up = missed.1 in
     let again = (c.compare_exchange-again.ensures.2 c.args.stripe refl).1 c.if-again-found.false in let small = c.requires.own.1 in let known = c.requires.own.2 in let even = c.if-found-eq1.false in
     λ _. busy_twice c.args.stripe (c.args.turn + c.args.turn % 2) c.compare_exchange-found.result c.compare_exchange-again.result c.args.seat.now.me c.compare_exchange-found.new.seat.me c.compare_exchange-again.new.seat.me
-      (omega arith) (omega arith) (omega arith) missed c.if-found-start.false (omega arith) (omega arith) again c.if-again-found.false
+    (omega arith) (omega arith) (omega arith) missed c.if-found-start.false (omega arith) (omega arith) again c.if-again-found.false

@@ -22,7 +22,7 @@ give_stripe-turn-requires-clause-value g c = let h = c.grab_stripe-has.ensures.t
 pub invariant_of-pass-2 : goal.invariant_of-pass-2
 invariant_of-pass-2 g c = let h = c.grab_stripe-has.ensures.taken c.if-not-has.false in let p = c.args.pass.now in let k : ℕ = c.from-place.result in
     let small : k < 16 = search rules in
-    let e = visited _ k _ c.give_stripe-turn.result (g.T.Stands.standing c.bring_on.new.value).applied p.seat.me c.grab_stripe-has.new.seat.me c.exchange-slot.new.seat.me c.give_stripe-turn.new.seat.me h small c.exchange-slot.ensures.3 c.give_stripe-turn.ensures.home in
+    let e = visited _ k _ c.give_stripe-turn.result (g.T.Stands.standing c.bring_on.new.value).applied p.seat.me c.grab_stripe-has.new.seat.me c.exchange-slot.new.seat.me c.give_stripe-turn.new.seat.me h small c.exchange-slot.ensures.3 c.give_stripe-turn.ensures.home c.give_stripe-turn.ensures.sound in
     let same : c.applied-applied.result ≡ (g.T.Stands.standing c.bring_on.new.value).applied = c.applied-applied.ensures.answer in let some = p.some_part in let q = e.0.parts in record {
       done_is = (λ i. set (p.done_is i) k (same i)) ∙ sym e.0.done;
       turn_is = (λ i. set (p.turn_is i) k c.give_stripe-turn.result) ∙ sym e.1;
@@ -36,7 +36,7 @@ pub returns-clause-visited : goal.returns-clause-visited
 returns-clause-visited g c = let h = c.grab_stripe-has.ensures.taken c.if-not-has.false in let p = c.args.pass.now in let k : ℕ = c.from-place.result in
     let small : k < 16 = search rules in let same : k ≡ c.args.stripe = search rules in
     let a : c.applied-applied.result ≡ (g.T.Stands.standing c.bring_on.new.value).applied = c.applied-applied.ensures.answer in
-    let e = visited _ k _ c.give_stripe-turn.result (g.T.Stands.standing c.bring_on.new.value).applied p.seat.me c.grab_stripe-has.new.seat.me c.exchange-slot.new.seat.me c.give_stripe-turn.new.seat.me h small c.exchange-slot.ensures.3 c.give_stripe-turn.ensures.home in
+    let e = visited _ k _ c.give_stripe-turn.result (g.T.Stands.standing c.bring_on.new.value).applied p.seat.me c.grab_stripe-has.new.seat.me c.exchange-slot.new.seat.me c.give_stripe-turn.new.seat.me h small c.exchange-slot.ensures.3 c.give_stripe-turn.ensures.home c.give_stripe-turn.ensures.sound in
     subst (λ (x : ℕ × ℕ). StripeVisited x.0 x.1 p.seat.me c.give_stripe-turn.new.seat.me) (λ i. (same i, sym a i)) e.0
 
 pub returns-clause-applied : goal.returns-clause-applied

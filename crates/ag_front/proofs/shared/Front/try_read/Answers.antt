@@ -15,7 +15,7 @@ exchange-slot-requires g c = let h = c.grab_stripe-has.ensures.taken c.if-not-ha
 pub invariant_of-pass-2 : goal.invariant_of-pass-2
 invariant_of-pass-2 g c = let h = c.grab_stripe-has.ensures.taken c.if-not-has.false in let p = c.args.pass.now in let k : ℕ = c.stripe_of_page-place.result in
     let small : k < 16 = search rules in
-    let e = visited _ k _ c.give_stripe-turn.result (g.T.Stands.standing c.row_at-row.new.self).applied p.seat.me c.grab_stripe-has.new.seat.me c.exchange-slot.new.seat.me c.give_stripe-turn.new.seat.me h small c.exchange-slot.ensures.3 c.give_stripe-turn.ensures.home in
+    let e = visited _ k _ c.give_stripe-turn.result (g.T.Stands.standing c.row_at-row.new.self).applied p.seat.me c.grab_stripe-has.new.seat.me c.exchange-slot.new.seat.me c.give_stripe-turn.new.seat.me h small c.exchange-slot.ensures.3 c.give_stripe-turn.ensures.home c.give_stripe-turn.ensures.sound in
     let same : c.applied-applied.result ≡ (g.T.Stands.standing c.row_at-row.new.self).applied = c.applied-applied.ensures.answer in let some = p.some_part in let q = e.0.parts in record {
       done_is = (λ i. set (p.done_is i) k (same i)) ∙ sym e.0.done;
       turn_is = (λ i. set (p.turn_is i) k c.give_stripe-turn.result) ∙ sym e.1;
@@ -34,7 +34,7 @@ returns-in-Ok-clause-row g c = let h = c.grab_stripe-has.ensures.taken c.if-not-
     let t = in_hand _ k _ p.seat.me c.grab_stripe-has.new.seat.me c.exchange-slot.result c.in-Stripe.value h c.exchange-slot.ensures.2 c.in-Stripe.is in
     let home = c.give_stripe-turn.ensures.home ∙ (λ i. (record c.exchange-slot.new.seat.me.0 { done = set c.exchange-slot.new.seat.me.0.done k (c.row_at-row.ensures.applied i); turn = set c.exchange-slot.new.seat.me.0.turn k c.give_stripe-turn.result; hand = 0 }, [])) in
     row_read _ k _ c.give_stripe-turn.result c.args.key c.args.at p.seat.me c.grab_stripe-has.new.seat.me c.exchange-slot.new.seat.me c.give_stripe-turn.new.seat.me c.in-Stripe.value c.in-Ok.row small own (omega arith)
-        (g.met.T.Stands.none_bad g.met.T.Steps.never_bad c.in-Stripe.value (page_of p.seat.me.0.pages c.args.key)) c.requires.front h t c.exchange-slot.ensures.3 home c.in-Ok.ensures.row.0 c.in-Ok.ensures.row.1
+    (g.met.T.Stands.none_bad g.met.T.Steps.never_bad c.in-Stripe.value (page_of p.seat.me.0.pages c.args.key)) c.requires.front h t c.exchange-slot.ensures.3 home c.in-Ok.ensures.row.0 c.in-Ok.ensures.row.1
 
 pub returns-in-Err-clause-fault : goal.returns-in-Err-clause-fault
 returns-in-Err-clause-fault g c = let h = c.grab_stripe-has.ensures.taken c.if-not-has.false in let p = c.args.pass.now in let k : ℕ = c.stripe_of_page-place.result in
@@ -44,9 +44,9 @@ returns-in-Err-clause-fault g c = let h = c.grab_stripe-has.ensures.taken c.if-n
     let some = p.some_pages in let pages = p.pages_is in
     let t = in_hand _ k _ p.seat.me c.grab_stripe-has.new.seat.me c.exchange-slot.result c.in-Stripe.value h c.exchange-slot.ensures.2 c.in-Stripe.is in
     let home = c.give_stripe-turn.ensures.home ∙ (λ i. (record c.exchange-slot.new.seat.me.0 { done = set c.exchange-slot.new.seat.me.0.done k (c.row_at-row.ensures.applied i); turn = set c.exchange-slot.new.seat.me.0.turn k c.give_stripe-turn.result; hand = 0 }, [])) in
-    let v = visited _ k _ c.give_stripe-turn.result (g.T.Stands.standing c.row_at-row.new.self).applied p.seat.me c.grab_stripe-has.new.seat.me c.exchange-slot.new.seat.me c.give_stripe-turn.new.seat.me h small c.exchange-slot.ensures.3 c.give_stripe-turn.ensures.home in (
+    let v = visited _ k _ c.give_stripe-turn.result (g.T.Stands.standing c.row_at-row.new.self).applied p.seat.me c.grab_stripe-has.new.seat.me c.exchange-slot.new.seat.me c.give_stripe-turn.new.seat.me h small c.exchange-slot.ensures.3 c.give_stripe-turn.ensures.home c.give_stripe-turn.ensures.sound in (
       old_read _ k _ c.give_stripe-turn.result c.args.key c.args.at p.seat.me c.grab_stripe-has.new.seat.me c.exchange-slot.new.seat.me c.give_stripe-turn.new.seat.me c.in-Stripe.value c.in-Err.fault small own (omega arith)
-        (g.met.T.Stands.none_bad g.met.T.Steps.never_bad c.in-Stripe.value (page_of p.seat.me.0.pages c.args.key)) h t c.exchange-slot.ensures.3 home c.in-Err.ensures.row.0 c.in-Err.ensures.row.1,
+          (g.met.T.Stands.none_bad g.met.T.Steps.never_bad c.in-Stripe.value (page_of p.seat.me.0.pages c.args.key)) h t c.exchange-slot.ensures.3 home c.in-Err.ensures.row.0 c.in-Err.ensures.row.1,
       subst (λ (j : ℕ). StripeVisited j (get_or c.give_stripe-turn.new.seat.me.0.done j 0) p.seat.me c.give_stripe-turn.new.seat.me) own
-        (subst (λ (n : ℕ). StripeVisited k n p.seat.me c.give_stripe-turn.new.seat.me) (sym v.2) v.0),
+          (subst (λ (n : ℕ). StripeVisited k n p.seat.me c.give_stripe-turn.new.seat.me) (sym v.2) v.0),
     )
