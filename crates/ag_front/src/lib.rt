@@ -8,6 +8,7 @@ pub mod dispatch;
 pub mod fault;
 pub mod front;
 pub mod history;
+pub mod laws;
 pub mod open;
 pub mod passes;
 pub mod plays;
