@@ -31,7 +31,7 @@ others_none vs id j v u n here at apart all mine = let t = there vs id v here in
     let h = one_part (λ (x : View). x.parts) (set vs id spent_view) j u (set_else vs id j spent_view apart ∙ at) in omega arith
 
 -- the place of the last is the length
-snoc_at : {A : Type 0} (l : List A) (a b : A) (j n : ℕ) → length l ≡ n → get_elem? (l ++ a ∷ []) j ≡ some b → (get_elem? l j ≡ some b) ⊎ ((j ≡ n) × (a ≡ b))
+pub snoc_at : {A : Type 0} (l : List A) (a b : A) (j n : ℕ) → length l ≡ n → get_elem? (l ++ a ∷ []) j ≡ some b → (get_elem? l j ≡ some b) ⊎ ((j ≡ n) × (a ≡ b))
 snoc_at [] a b zero n len e = inr (len, some-injective a b e)
 snoc_at [] a b (suc j) n len e = absurd (some-ne-none b (sym e))
 snoc_at (x ∷ xs) a b zero n len e = inl e

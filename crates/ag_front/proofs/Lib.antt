@@ -12,3 +12,5 @@ mod Logging
 mod Applying
 mod Waits
 mod Closing
+mod TestPages
+mod TestLogs

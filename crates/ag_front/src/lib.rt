@@ -15,4 +15,8 @@ pub mod plays;
 pub mod read;
 pub mod rule;
 pub mod shared;
+#[cfg(test)]
+mod tests;
+#[cfg(test)]
+mod tests_stripe;
 pub mod view;
