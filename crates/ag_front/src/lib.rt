@@ -19,4 +19,6 @@ pub mod shared;
 mod tests;
 #[cfg(test)]
 mod tests_stripe;
+#[cfg(test)]
+mod tests_threads;
 pub mod view;

@@ -92,9 +92,9 @@ fn stripes<'a, R: Abort>(rt: &'a R, alloc: Global) -> Result<Vec<OnePage<'a, R>>
     Ok(all)
 }
 
-type TestFront<'a, R> = Front<OnePage<'a, R>>;
+pub(crate) type TestFront<'a, R> = Front<OnePage<'a, R>>;
 
-type TestPass<'a, R> = Pass<OnePage<'a, R>>;
+pub(crate) type TestPass<'a, R> = Pass<OnePage<'a, R>>;
 
 // Each stripe is brought through the next block and published, by fetching the block.
 fn redo<'a, R: Abort + Wait>(
@@ -120,7 +120,7 @@ fn redo<'a, R: Abort + Wait>(
 }
 
 // A front at the opening log.
-fn opened<'a, R: Abort>(
+pub(crate) fn opened<'a, R: Abort>(
     rt: &'a R,
     alloc: Global,
 ) -> Result<(TestFront<'a, R>, TestPass<'a, R>), NoMemory>
