@@ -1,6 +1,5 @@
 -- The application of a block to a stripe that was taken, and what is read of it.
-use Rattle.std.proofs.Common.{◌≡◌, ◌≢◌, ℕ, zero, suc, ◌+◌, ◌-◌, ◌%◌, ◌^◌, ◌<◌, ◌≤◌, ◌⊎◌, List, [], ◌∷◌, ◌++◌, length, get_or, set, sym, refl, ap, ◌∙◌, subst, arith, le_refl, get_or-set_same, length-set, false}
-use Rattle.std.specs.Prelude.{Result, Ok, Err, MatchResult}
+use Rattle.std.proofs.Common.{◌≡◌, ℕ, ◌+◌, ◌%◌, ◌<◌, ◌≤◌, List, [], ◌∷◌, length, get_or, set, sym, refl, ap, ◌∙◌, subst, arith, le_refl, get_or-set_same, length-set, false}
 use mathlib.Core.Logic.{dite}
 use native.Mathlib.Decide.{dec_le}
 use Rattle.atomic_table.specs.Table.{Me, rest}
@@ -11,17 +10,17 @@ use Rattle.ag_model.specs.declared.value.PageValue.{PageValue}
 use Rattle.ag_model.specs.declared.value.Row.{Row}
 use Rattle.ag_model.specs.declared.value.TooOld.{TooOld}
 use Rattle.ag_model.specs.Page.{value, pick}
-use Rattle.ag_model.specs.Rows.{page_of, stripe_of, rows}
+use Rattle.ag_model.specs.Rows.{page_of}
 use Rattle.ag_model.specs.declared.record.Log.{Log}
-use Rattle.ag_model.specs.Prefixes.{end_of, IsPrefix, IsBlockEnd, HasBlock}
+use Rattle.ag_model.specs.Prefixes.{end_of, IsPrefix, HasBlock}
 use Rattle.ag_model.specs.Proper.{IsProper}
 use Rattle.ag_model.specs.Stripes.{Standing, StandsFor, IsPageOf, IsNextBlock, IsSameStripe}
-use Rattle.ag_model.proofs.Prefixes.{prefix_trans, prefix_same, prefix_length, no_end_inside, end_low}
+use Rattle.ag_model.proofs.Prefixes.{prefix_trans, no_end_inside, end_low}
 use Rattle.ag_front.specs.declared.view.View.{View}
 use Rattle.ag_front.specs.declared.rule.Slot.{Slot}
-use Rattle.ag_front.specs.declared.rule.Slot.TheVariants.{Stripe, History, Away}
+use Rattle.ag_front.specs.declared.rule.Slot.TheVariants.{Stripe, Away}
 use Rattle.ag_front.specs.Rule.{IsSound, StandsAt, least}
-use Rattle.ag_front.specs.Slots.{counted_up, with_stripe, HasStripe, Took}
+use Rattle.ag_front.specs.Slots.{counted_up, Took}
 use Rattle.ag_front.specs.Applies.{CanBring, IsBrought, StripeVisited, stripe_of_key, known_value, IsRowAt, IsTooOld}
 use Rattle.ag_front.proofs.Loads.{least_each}
 use Rattle.ag_front.proofs.Giving.{first_of'}

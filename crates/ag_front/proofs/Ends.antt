@@ -1,5 +1,5 @@
 -- The ends of a log by their places.
-use Rattle.std.proofs.Common.{◌≡◌, ◌≢◌, ℕ, zero, suc, ◌+◌, ◌-◌, ◌<◌, ◌≤◌, ◌⊎◌, inl, inr, Bool, true, false, cond, eqb, leb, List, [], ◌∷◌, ◌++◌, length, get_or, take, drop, refl, sym, ap, subst, ◌∙◌, arith}
+use Rattle.std.proofs.Common.{◌≡◌, ℕ, zero, suc, ◌+◌, ◌<◌, ◌≤◌, inl, inr, true, eqb, List, [], ◌∷◌, ◌++◌, length, get_or, take, drop, refl, sym, ap, subst, ◌∙◌, arith}
 use Rattle.std.specs.Prelude.{Option, Some, None, Ok, Err, nat_le}
 use Rattle.std.specs.List.{filter, last_or}
 use Rattle.std.specs.List.Sorted.{IsBinarySearchResult}
@@ -17,7 +17,7 @@ use Rattle.ag_model.specs.Rows.{contains}
 use Rattle.ag_model.specs.Starts.{last_term}
 use Rattle.ag_front.specs.Fetches.{IsBlockAfter}
 use Rattle.ag_model.proofs.Prefixes.{prefix_at, cut_length, end_low}
-use Rattle.ag_model.proofs.Rising.{filter-none, last-top}
+use Rattle.ag_model.proofs.Rising.{filter-none}
 
 -- each end is above the LSN that the ends rise from
 pub above : (low i : ℕ) (es : List ℕ) → RisesFrom low es → i < length es → low < get_or es i 0

@@ -1,26 +1,26 @@
 -- How the giving back of a slot, and the taking of the log, keep the rule.
-use Rattle.std.proofs.Common.{◌≡◌, ◌≢◌, ℕ, zero, suc, ◌+◌, ◌-◌, ◌%◌, ◌^◌, ◌<◌, ◌≤◌, ◌⊎◌, ⊎_elim, inl, inr, eqb, Bool, true, false, List, [], ◌∷◌, ◌++◌, length, get_or, set, sym, refl, ap, ◌∙◌, subst, arith, le_refl, length-set, get_or-set_other, get_or-set_same, eq-eqb, ne_eqb}
+use Rattle.std.proofs.Common.{◌≡◌, ◌≢◌, ℕ, ◌+◌, ◌-◌, ◌%◌, ◌^◌, ◌<◌, ◌≤◌, ◌⊎◌, ⊎_elim, inl, inr, eqb, true, List, [], ◌∷◌, length, get_or, set, sym, refl, ap, ◌∙◌, subst, arith, length-set, eq-eqb, ne_eqb}
 use mathlib.Core.Logic.{dite}
-use mathlib.Core.Option.{Option, none, some, some-injective, some-ne-none}
-use native.Mathlib.Decide.{dec_le, ℕ_discrete}
+use mathlib.Core.Option.{none, some, some-injective}
+use native.Mathlib.Decide.{ℕ_discrete}
 use lib.ListN.{get_elem?}
 use prog.Atomic.{either}
-use Rattle.atomic_table.specs.Table.{State, Me, Act, step, keeps, takes, gives, stepped, Allows}
-use Rattle.atomic_table.proofs.Lists.{at_set, set_here, set_else}
+use Rattle.atomic_table.specs.Table.{State, Me, step, keeps, takes, gives, stepped, Allows}
+use Rattle.atomic_table.proofs.Lists.{set_here, set_else}
 use Rattle.ag_model.specs.declared.record.Log.{Log}
-use Rattle.ag_model.specs.Prefixes.{end_of, IsPrefix, IsBlockEnd}
+use Rattle.ag_model.specs.Prefixes.{IsPrefix, IsBlockEnd}
 use Rattle.ag_model.specs.declared.record.Record.{Record}
 use Rattle.ag_model.specs.Blocks.{with_block}
 use Rattle.ag_model.specs.Proper.{IsProper}
 use Rattle.ag_model.specs.Stripes.{Standing}
-use Rattle.ag_model.proofs.Prefixes.{prefix_trans, prefix_refl, prefix_length, end_later, end_earlier, end_low, stands_later}
-use Rattle.ag_model.proofs.ProperPrefixes.{prefix_proper, prefix_more}
+use Rattle.ag_model.proofs.Prefixes.{prefix_trans, prefix_refl, end_later, end_earlier, end_low, stands_later}
+use Rattle.ag_model.proofs.ProperPrefixes.{prefix_more}
 use Rattle.ag_front.specs.declared.view.View.{View}
 use Rattle.ag_front.specs.declared.rule.Slot.{Slot}
 use Rattle.ag_front.specs.declared.rule.Slot.TheVariants.{Stripe, History}
-use Rattle.ag_front.specs.Rule.{published, turn_of, IsSizedOf, IsSoundOf, IsSound, StandsAt, IsLaid, Knows, FollowsRule}
-use Rattle.ag_front.specs.Slots.{counted_up, tried, with_log, Missed, HasLog, log_tried, log_given, stripe_given, MayGive}
-use Rattle.ag_front.proofs.Keeps.{there, set_case, rebuild, reseated, as_it_was}
+use Rattle.ag_front.specs.Rule.{published, turn_of, IsSoundOf, IsSound, StandsAt, Knows, FollowsRule}
+use Rattle.ag_front.specs.Slots.{counted_up, tried, with_log, log_tried, log_given, stripe_given, MayGive}
+use Rattle.ag_front.proofs.Keeps.{set_case, rebuild, reseated, as_it_was}
 use Rattle.ag_front.proofs.Taking.{put, put_here, put_else, turn_words, missed, taken}
 
 abbrev pub first_of' : {A : Type 0} → A → List A → A

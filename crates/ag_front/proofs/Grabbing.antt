@@ -3,12 +3,10 @@ use Rattle.std.proofs.Common.{◌≡◌, ◌≢◌, ℕ, zero, suc, ◌+◌, ◌
 use mathlib.Core.Logic.{dite}
 use native.Mathlib.Decide.{ℕ_discrete}
 use Rattle.atomic_table.specs.Table.{Me}
-use Rattle.ag_model.specs.declared.record.Log.{Log}
 use Rattle.ag_model.specs.Stripes.{Standing}
 use Rattle.ag_front.specs.declared.view.View.{View}
 use Rattle.ag_front.specs.declared.rule.Slot.{Slot}
-use Rattle.ag_front.specs.declared.rule.Slot.TheVariants.{Stripe, History}
-use Rattle.ag_front.specs.Rule.{IsSound}
+use Rattle.ag_front.specs.declared.rule.Slot.TheVariants.{Stripe}
 use Rattle.ag_front.specs.Slots.{counted_up, tried, with_stripe, Missed, HasStripe, Took, IsBusy}
 
 pub set_twice : {A : Type 0} (xs : List A) (k : ℕ) (a b : A) → set (set xs k a) k b ≡ set xs k b

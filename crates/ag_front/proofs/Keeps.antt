@@ -1,25 +1,24 @@
 -- How a step keeps the rule.
-use Rattle.std.proofs.Common.{◌≡◌, ◌≢◌, ℕ, zero, suc, ◌+◌, ◌-◌, ◌%◌, ◌^◌, ◌<◌, ◌≤◌, ◌⊎◌, inl, inr, ⊎_elim, Bool, true, false, List, [], ◌∷◌, ◌++◌, length, get_or, set, sym, refl, ap, ◌∙◌, subst, arith, le_refl, length-set, get_or-set_other, get_or-set_same, max, min, cond, ltb, ◌||◌}
-use Rattle.std.specs.List.{sum_by}
+use Rattle.std.proofs.Common.{◌≡◌, ◌≢◌, ℕ, zero, suc, ◌+◌, ◌%◌, ◌<◌, ◌≤◌, ⊎_elim, true, List, [], ◌∷◌, length, get_or, set, sym, refl, ap, ◌∙◌, subst, arith, le_refl, length-set, get_or-set_other, get_or-set_same, max}
 use Rattle.std.proofs.lemmas.List.Sums.{sum_by-set, sum_by-append}
 use mathlib.Core.Logic.{dite}
 use mathlib.Core.Option.{Option, none, some, some-injective, some-ne-none}
-use native.Mathlib.Decide.{dec_le, ℕ_discrete}
+use native.Mathlib.Decide.{ℕ_discrete}
 use lib.ListN.{get_elem?}
 use lib.Seq.{set-get_or}
-use Rattle.atomic_table.specs.Table.{State, Me, Act, step, keeps, stepped, Allows, Splits, Joins}
+use Rattle.atomic_table.specs.Table.{State, Me, step, keeps, stepped, Allows, Splits, Joins}
 use Rattle.atomic_table.proofs.Lists.{at_set, set_here, set_else, at_snoc, at_longer}
 use Rattle.ag_model.specs.declared.record.Log.{Log}
 use Rattle.ag_model.specs.Prefixes.{end_of, IsPrefix, IsBlockEnd}
 use Rattle.ag_model.specs.Proper.{IsProper}
 use Rattle.ag_model.specs.Stripes.{Standing}
-use Rattle.ag_model.proofs.Prefixes.{prefix_trans, prefix_refl, prefix_length, prefix_both, end_later, end_earlier, end_last, end_positive}
+use Rattle.ag_model.proofs.Prefixes.{prefix_length, end_later, end_earlier, end_last, end_positive}
 use Rattle.ag_model.proofs.ProperPrefixes.{prefix_proper}
 use Rattle.ag_front.specs.declared.view.View.{View}
 use Rattle.ag_front.specs.declared.rule.Slot.{Slot}
-use Rattle.ag_front.specs.Rule.{published, turn_of, IsSizedOf, IsSoundOf, IsSound, StandsAt, IsLaid, Knows, FollowsRule}
+use Rattle.ag_front.specs.Rule.{published, turn_of, IsSound, IsLaid, Knows, FollowsRule}
 use Rattle.ag_front.proofs.Merging.{max_case, length-maxes, maxes_case, or_cases, or_first, or_second, moved, moved_to, moved_not, longer_begins, longer_first, longer_second, longer_log, longer_log'}
-use Rattle.ag_front.specs.Steps.{after_load, after_raise, loaded, raised, kept_part, given_part, longer, maxes, merged, spent_view}
+use Rattle.ag_front.specs.Steps.{after_load, after_raise, loaded, raised, kept_part, given_part, merged, spent_view}
 
 -- a list read at an index that is there
 pub there : {A : Type 0} (l : List A) (i : ℕ) (a : A) → get_elem? l i ≡ some a → (i < length l) × ((d : A) → get_or l i d ≡ a)

@@ -1,9 +1,9 @@
 -- The log taken, made longer, and given back.
-use Rattle.std.proofs.Common.{◌≡◌, ◌≢◌, ℕ, ◌+◌, ◌%◌, ◌^◌, ◌<◌, ◌≤◌, ◌⊎◌, inl, inr, Bool, true, false, List, [], ◌∷◌, ◌++◌, length, get_or, set, sym, refl, ap, ◌∙◌, subst, arith, get_or-set_other}
+use Rattle.std.proofs.Common.{◌≡◌, ℕ, ◌+◌, true, List, [], ◌∷◌, get_or, set, sym, ap, ◌∙◌, subst, arith, get_or-set_other}
 use lib.Seq.{set-get_or}
 use Rattle.atomic_table.specs.Table.{Me, rest}
 use Rattle.ag_model.specs.declared.record.Log.{Log}
-use Rattle.ag_model.specs.Prefixes.{end_of, IsPrefix, IsBlockEnd}
+use Rattle.ag_model.specs.Prefixes.{end_of, IsPrefix}
 use Rattle.ag_model.specs.declared.record.Record.{Record}
 use Rattle.ag_model.specs.Blocks.{with_block}
 use Rattle.ag_model.specs.Proper.{IsProper}
@@ -13,9 +13,9 @@ use Rattle.ag_model.proofs.Prefixes.{prefix_trans, prefix_refl}
 use Rattle.ag_model.proofs.ProperPrefixes.{prefix_more}
 use Rattle.ag_front.specs.declared.view.View.{View}
 use Rattle.ag_front.specs.declared.rule.Slot.{Slot}
-use Rattle.ag_front.specs.declared.rule.Slot.TheVariants.{Stripe, History, Away}
+use Rattle.ag_front.specs.declared.rule.Slot.TheVariants.{History, Away}
 use Rattle.ag_front.specs.Rule.{IsSound}
-use Rattle.ag_front.specs.Slots.{counted_up, tried, with_log, Missed, HasLog, MayGive, TookLog, Trying, LogVisited}
+use Rattle.ag_front.specs.Slots.{counted_up, tried, with_log, Missed, HasLog, TookLog, Trying, LogVisited}
 use Rattle.ag_front.proofs.Giving.{first_of'}
 use Rattle.ag_front.proofs.Grabbing.{set_twice}
 
@@ -42,33 +42,6 @@ module _ {T : Type 0} where
 
   pub log_in_hand : (n : ℕ) (m m' : Me (Slot T) View) (x : Slot T) (log : Log) → (h : TookLog n m m') → m'.1 ≡ (16, x) ∷ rest m'.1 → x ≡ History log → h.log ≡ log
   log_in_hand n m m' x log h is found = let e : x ≡ History h.log = sym (ap (λ (l : List (ℕ × Slot T)). (first_of' (16, x) l).1) is) ∙ (λ i. (first_of' (16, x) ((h.is i).1)).1) in cc (e, found)
-
-  -- m2: after the exchange
-  pub may_give_same : (n : ℕ) (m m1 m2 : Me (Slot T) View) (log : Log) → (h : TookLog n m m1) → h.log ≡ log → m2 ≡ (m1.0, (16, Away) ∷ rest m1.1) → MayGive m2.0 log
-  may_give_same n m m1 m2 log h is p = inl (sym ((λ i. ((p i).0).seen) ∙ ((λ i. ((h.is i).0).seen) ∙ is)))
-
-  -- the author's log, with the block or as it was
-  pub may_give_log : (n : ℕ) (m m1 m2 : Me (Slot T) View) (log log' : Log) (block : List Record) (first : ℕ) (r : Result ℕ DispatchFault) → (h : TookLog n m m1) → h.log ≡ log → m2 ≡ (m1.0, (16, Away) ∷ rest m1.1) → m.0.author ≡ true
-      → (first ≡ end_of m.0.seen + 1 → IsProper m.0.pages (with_block m.0.seen block)) → IfOk r (λ _. first ≡ end_of log + 1) → IfOk r (λ _. log' ≡ with_block log block) → OnErr r (log' ≡ log) → MayGive m2.0 log'
-  may_give_log n m m1 m2 log log' block first r h is p author proper = go r
-    where
-      whole : m.0.seen ≡ log
-      whole = h.whole author ∙ is
-
-      seen : m2.0.seen ≡ log
-      seen = (λ i. ((p i).0).seen) ∙ ((λ i. ((h.is i).0).seen) ∙ is)
-
-      pages : m2.0.pages ≡ m.0.pages
-      pages = (λ i. ((p i).0).pages) ∙ (λ i. ((h.is i).0).pages)
-
-      go : (q : Result ℕ DispatchFault) → IfOk q (λ _. first ≡ end_of log + 1) → IfOk q (λ _. log' ≡ with_block log block) → OnErr q (log' ≡ log) → MayGive m2.0 log'
-      go (Ok x) next longer same = inr (
-        (λ i. ((p i).0).author) ∙ ((λ i. ((h.is i).0).author) ∙ author),
-        block,
-        longer ∙ ap (λ (x : Log). with_block x block) (sym seen),
-        subst (λ (x : ℕ × Log). IsProper x.0 x.1) (λ i. (sym pages i, (ap (λ (x : Log). with_block x block) whole ∙ sym longer) i)) (proper (next ∙ ap (λ (x : Log). end_of x + 1) (sym whole))),
-      )
-      go (Err e) next longer same = inl (same ∙ sym seen)
 
   -- the author's log is no shorter
   pub log_further : (n : ℕ) (m m1 : Me (Slot T) View) (log log' : Log) (block : List Record) (first : ℕ) (r : Result ℕ DispatchFault) → (h : TookLog n m m1) → h.log ≡ log → m.0.author ≡ true

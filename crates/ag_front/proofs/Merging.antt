@@ -1,11 +1,11 @@
 -- Of two views that are merged.
-use Rattle.std.proofs.Common.{◌≡◌, ◌≢◌, ℕ, zero, suc, ◌+◌, ◌<◌, ◌≤◌, ◌⊎◌, inl, inr, Bool, true, false, cond, ltb, ◌||◌, List, [], ◌∷◌, ◌++◌, length, get_or, set, sym, refl, ap, ◌∙◌, subst, arith, max, le_refl, length-set, get_or-set_other, get_or-set_same}
+use Rattle.std.proofs.Common.{◌≡◌, ◌≢◌, ℕ, zero, suc, ◌+◌, ◌<◌, ◌≤◌, ◌⊎◌, inl, inr, Bool, true, false, cond, ltb, ◌||◌, List, [], ◌∷◌, length, get_or, set, sym, refl, ap, ◌∙◌, subst, arith, max, le_refl, length-set, get_or-set_other, get_or-set_same}
 use Rattle.std.proofs.lemmas.Grind.{same_number_lists}
 use Rattle.std.proofs.lemmas.Bool.{ltb-true, lt-ltb}
 use mathlib.Core.Logic.{dite}
 use native.Mathlib.Decide.{dec_le, ℕ_discrete}
 use Rattle.ag_model.specs.declared.record.Log.{Log}
-use Rattle.ag_model.specs.Prefixes.{end_of, IsPrefix, IsBlockEnd}
+use Rattle.ag_model.specs.Prefixes.{end_of, IsPrefix}
 use Rattle.ag_model.specs.Proper.{IsProper}
 use Rattle.ag_model.proofs.Prefixes.{prefix_length, prefix_both, prefix_whole}
 use Rattle.ag_front.specs.Steps.{longer, maxes}

@@ -1,21 +1,19 @@
 -- The rule holds at the opening.
-use Rattle.std.proofs.Common.{◌≡◌, ◌≢◌, ℕ, zero, suc, ◌+◌, ◌%◌, ◌^◌, ◌<◌, ◌≤◌, Bool, true, false, List, [], ◌∷◌, ◌++◌, map, length, get_or, set, replicate, sym, refl, ap, ◌∙◌, subst, arith, length-append}
-use Rattle.std.specs.List.{sum_by}
+use Rattle.std.proofs.Common.{◌≡◌, ℕ, zero, suc, ◌+◌, ◌<◌, ◌≤◌, List, [], ◌∷◌, map, length, get_or, set, replicate, sym, refl, ap, ◌∙◌, subst, arith, length-append}
 use Rattle.std.proofs.lemmas.List.{get_or-replicate, length-replicate, length-map}
-use mathlib.Core.Option.{Option, none, some, some-injective, some-ne-none}
+use mathlib.Core.Option.{some, some-injective, some-ne-none}
 use lib.ListN.{get_elem?}
-use Rattle.atomic_table.specs.Table.{State, opening}
-use Rattle.atomic_table.proofs.Lists.{at_map, at_longer, at_last, some_there, at_index}
+use Rattle.atomic_table.specs.Table.{opening}
+use Rattle.atomic_table.proofs.Lists.{at_map, at_longer, at_last, at_index}
 use Rattle.ag_front.proofs.Keeps.{set_case}
 use Rattle.ag_model.specs.declared.record.Log.{Log}
-use Rattle.ag_model.specs.Prefixes.{end_of, IsPrefix, IsBlockEnd}
+use Rattle.ag_model.specs.Prefixes.{IsBlockEnd}
 use Rattle.ag_model.specs.Proper.{IsProper}
 use Rattle.ag_model.specs.Stripes.{Standing}
 use Rattle.ag_model.proofs.Prefixes.{prefix_refl, prefix_empty}
 use Rattle.ag_front.specs.declared.view.View.{View}
-use Rattle.ag_front.specs.declared.rule.Slot.{Slot}
 use Rattle.ag_front.specs.declared.rule.Slot.TheVariants.{Stripe, History}
-use Rattle.ag_front.specs.Rule.{starting, published, turn_of, IsSizedOf, IsSoundOf, IsSound, StandsAt, IsLaid, Knows, FollowsRule}
+use Rattle.ag_front.specs.Rule.{starting, turn_of, IsSound, StandsAt, Knows, FollowsRule}
 use Rattle.ag_front.specs.Opens.{all_slots, OpeningWords, AreStripes, OpeningsOf, AppliedOf}
 
 -- the place of a list that is there

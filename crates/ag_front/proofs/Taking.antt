@@ -1,26 +1,25 @@
 -- How the taking of a slot keeps the rule.
-use Rattle.std.proofs.Common.{◌≡◌, ◌≢◌, ℕ, zero, suc, ◌+◌, ◌-◌, ◌%◌, ◌^◌, ◌<◌, ◌≤◌, ◌⊎◌, ⊎_elim, eqb, Bool, true, false, List, [], ◌∷◌, ◌++◌, length, get_or, set, sym, refl, ap, ◌∙◌, subst, arith, le_refl, length-set, get_or-set_other, get_or-set_same, eq-eqb, ne_eqb}
+use Rattle.std.proofs.Common.{◌≡◌, ◌≢◌, ℕ, ◌+◌, ◌-◌, ◌%◌, ◌^◌, ◌<◌, ◌≤◌, eqb, List, ◌∷◌, length, get_or, set, sym, refl, ap, ◌∙◌, subst, arith, length-set, get_or-set_other, get_or-set_same, eq-eqb, ne_eqb}
 use mathlib.Core.Logic.{dite}
-use mathlib.Core.Option.{Option, none, some, some-injective, some-ne-none}
-use native.Mathlib.Decide.{dec_le, ℕ_discrete}
+use mathlib.Core.Option.{Option, none, some, some-injective}
+use native.Mathlib.Decide.{ℕ_discrete}
 use lib.ListN.{get_elem?}
 use prog.Atomic.{either}
-use Rattle.atomic_table.specs.Table.{State, Me, Act, step, keeps, takes, gives, stepped, Allows}
-use Rattle.atomic_table.proofs.Lists.{at_set, set_here, set_else, exchanged}
+use Rattle.atomic_table.specs.Table.{State, Me, step, keeps, takes, stepped, Allows}
+use Rattle.atomic_table.proofs.Lists.{set_here, set_else}
 use Rattle.ag_model.specs.declared.record.Log.{Log}
-use Rattle.ag_model.specs.Prefixes.{end_of, IsPrefix, IsBlockEnd}
+use Rattle.ag_model.specs.Prefixes.{IsPrefix, IsBlockEnd}
 use Rattle.ag_model.specs.Blocks.{cut_at}
-use Rattle.ag_model.specs.Proper.{IsProper}
 use Rattle.ag_model.specs.Stripes.{Standing}
 use Rattle.ag_model.proofs.Prefixes.{prefix_trans, prefix_length, prefix_at, cut_length, end_later, end_earlier, stands_earlier}
 use Rattle.ag_front.specs.declared.view.View.{View}
 use Rattle.ag_front.specs.declared.rule.Slot.{Slot}
-use Rattle.ag_front.specs.declared.rule.Slot.TheVariants.{Stripe, History}
-use Rattle.ag_front.specs.Rule.{published, turn_of, IsSizedOf, IsSoundOf, IsSound, StandsAt, IsLaid, Knows, FollowsRule}
+use Rattle.ag_front.specs.declared.rule.Slot.TheVariants.{Stripe}
+use Rattle.ag_front.specs.Rule.{published, turn_of, IsLaid, Knows, FollowsRule}
 use Rattle.ag_front.specs.Steps.{longer}
-use Rattle.ag_front.specs.Slots.{counted_up, tried, with_stripe, with_log, Missed, HasStripe, stripe_tried}
-use Rattle.ag_front.proofs.Keeps.{there, set_case, rebuild, reseated, as_it_was, still_out, seen_proper}
-use Rattle.ag_front.proofs.Merging.{moved, moved_to, moved_not, longer_begins, longer_first, longer_second, longer_log}
+use Rattle.ag_front.specs.Slots.{counted_up, tried, with_stripe, Missed, HasStripe, stripe_tried}
+use Rattle.ag_front.proofs.Keeps.{there, set_case, rebuild, reseated, as_it_was, seen_proper}
+use Rattle.ag_front.proofs.Merging.{longer_begins, longer_first, longer_second, longer_log}
 
 -- a function with another value at k
 abbrev pick : {P : Type 0} → Dec P → ℕ → ℕ → ℕ

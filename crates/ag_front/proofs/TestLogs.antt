@@ -1,22 +1,18 @@
 -- The logs of the tests are proper, and their stripes stand for the opening one.
-use Rattle.std.proofs.Common.{◌≡◌, ℕ, zero, suc, ◌+◌, ◌-◌, ◌^◌, ◌<◌, ◌≤◌, Bool, true, false, cond, not, eqb, List, [], ◌∷◌, ◌++◌, length, take, replicate, refl, sym, ap, subst, ◌∙◌, arith, ⊎_elim, ◌⊎◌}
-use Rattle.std.specs.Prelude.{Some, None}
-use Rattle.std.specs.List.{AllByRecursion, filter, flat_map, list_any, sum_by, enumerate_from}
-use mathlib.Core.Option.{Option, none, some, some-injective, some-ne-none}
+use Rattle.std.proofs.Common.{◌≡◌, ℕ, zero, suc, ◌+◌, ◌<◌, ◌≤◌, Bool, true, false, cond, not, eqb, List, [], ◌∷◌, ◌++◌, length, take, replicate, refl, sym, ap, subst, ◌∙◌, arith, ⊎_elim}
+use Rattle.std.specs.List.{filter, flat_map, list_any, sum_by, enumerate_from}
+use mathlib.Core.Option.{some, some-ne-none}
 use lib.ListN.{get_elem?}
 use Rattle.std.proofs.lemmas.List.Sums.{sum_by-append, sum_by-cons}
 use Rattle.std.proofs.lemmas.List.{length-append}
-use Rattle.ag_model.specs.declared.message.Block.{Block}
-use Rattle.ag_model.specs.declared.record.Log.{Log}
 use Rattle.ag_model.specs.declared.record.Record.{Record}
 use Rattle.ag_model.specs.declared.record.Record.TheVariants.{Put, Del, Commit, Abort, Trim, Term}
-use Rattle.ag_model.specs.declared.value.Change.{Change}
 use Rattle.ag_model.specs.declared.value.PageValue.{PageValue}
 use Rattle.ag_model.specs.declared.value.Value.{Value}
 use Rattle.ag_model.specs.declared.value.Version.{Version}
 use Rattle.ag_model.specs.Blocks.{with_block}
 use Rattle.ag_model.specs.declared.value.Change.TheVariants.{Put as PutChange, Del as DelChange}
-use Rattle.ag_model.specs.Page.{value, commit_of, version_by, version_of, unless_aborted, is_abort_of, all_versions, numbered, untrimmed, horizons, is_trimmed_at}
+use Rattle.ag_model.specs.Page.{value, commit_of, version_by, is_abort_of, all_versions, numbered, horizons, is_trimmed_at}
 use Rattle.ag_model.specs.Prefixes.{IsBlockEnd}
 use Rattle.ag_model.specs.Proper.{IsProper}
 use Rattle.ag_model.specs.Rows.{page_of}

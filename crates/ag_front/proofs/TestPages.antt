@@ -1,12 +1,11 @@
 -- The pages of the stripes that tests use.
-use Rattle.std.proofs.Common.{◌≡◌, ℕ, ◌+◌, ◌-◌, ◌%◌, ◌^◌, ◌<◌, ◌≤◌, Bool, true, false, cond, ◌&&◌, eqb, List, [], ◌∷◌, ◌++◌, length, get_or, take, refl, sym, ap, subst, ◌∙◌, inl, inr, arith}
+use Rattle.std.proofs.Common.{◌≡◌, ℕ, ◌+◌, ◌-◌, ◌^◌, ◌<◌, ◌≤◌, Bool, true, false, cond, ◌&&◌, eqb, List, [], ◌∷◌, ◌++◌, length, get_or, take, refl, sym, ap, subst, ◌∙◌, inl, inr, arith}
 use Rattle.std.specs.Prelude.{Some, None, slice_get, Result, Ok, Err, MatchResult}
 use mathlib.Core.Logic.{dite}
 use native.Mathlib.Decide.{dec_le}
 use Rattle.ag_model.specs.declared.value.Row.{Row}
 use Rattle.ag_model.specs.declared.value.TooOld.{TooOld}
-use Rattle.std.specs.List.{filter}
-use Rattle.std.proofs.lemmas.Bool.{cases_Bool, or_cases, eqb-true}
+use Rattle.std.proofs.lemmas.Bool.{or_cases, eqb-true}
 use Rattle.std.proofs.lemmas.Option.{slice_get-get_or}
 use Rattle.std.proofs.lemmas.List.{length-append, length-take, get_or-append-add, get_or-take}
 use Rattle.ag_model.specs.declared.message.Block.{Block}
@@ -18,7 +17,7 @@ use Rattle.ag_model.specs.declared.value.PageValue.{PageValue}
 use Rattle.ag_model.specs.declared.value.Version.{Version}
 use Rattle.ag_model.specs.Blocks.{with_block}
 use Rattle.ag_model.specs.Page.{value, pick, greatest}
-use Rattle.ag_model.specs.Prefixes.{end_of, IsBlockEnd, HasBlock}
+use Rattle.ag_model.specs.Prefixes.{end_of, IsBlockEnd}
 use Rattle.ag_model.specs.Rows.{page_of, touches, contains}
 use Rattle.ag_model.specs.Stripes.{Standing, StandsFor, IsPageOf, IsNextBlock}
 use Rattle.ag_model.proofs.Prefixes.{end_positive, end_low}

@@ -1,7 +1,5 @@
 -- What a call says of a pass.
-use Rattle.std.specs.Prelude.{◌≡◌, ℕ, ◌+◌, ◌<◌, ◌≤◌, List, [], length, slice_index}
-use Rattle.ag_model.specs.declared.record.Log.{Log}
-use Rattle.ag_model.specs.Prefixes.{end_of, IsPrefix}
+use Rattle.std.specs.Prelude.{◌≡◌, ℕ, ◌<◌, ◌≤◌, List, length, slice_index}
 use Rattle.ag_front.specs.declared.view.View.{View}
 use Rattle.ag_front.specs.Rule.{least, IsSound}
 

@@ -1,10 +1,10 @@
 -- What the steps on the slots tell.
-use Rattle.std.specs.Prelude.{◌≡◌, ◌≢◌, ◌⊎◌, ℕ, ◌+◌, ◌-◌, ◌%◌, ◌^◌, ◌<◌, ◌≤◌, Bool, true, false, List, [], ◌∷◌, ◌++◌, length, slice_index, slice_set}
-use Rattle.atomic_table.specs.Table.{State, Me, Step}
+use Rattle.std.specs.Prelude.{◌≡◌, ◌≢◌, ◌⊎◌, ℕ, ◌+◌, ◌-◌, ◌%◌, ◌^◌, ◌<◌, ◌≤◌, true, List, [], ◌∷◌, slice_index, slice_set}
+use Rattle.atomic_table.specs.Table.{Step}
 use Rattle.ag_model.specs.declared.record.Log.{Log}
 use Rattle.ag_model.specs.declared.record.Record.{Record}
 use Rattle.ag_model.specs.Blocks.{with_block}
-use Rattle.ag_model.specs.Prefixes.{end_of, IsPrefix, IsBlockEnd}
+use Rattle.ag_model.specs.Prefixes.{end_of, IsPrefix}
 use Rattle.ag_model.specs.Proper.{IsProper}
 use Rattle.ag_model.specs.Stripes.{Standing}
 use Rattle.ag_front.specs.declared.view.View.{View}

@@ -1,12 +1,8 @@
 -- What each step tells its pass.
-use Rattle.std.specs.Prelude.{◌≡◌, ℕ, ◌+◌, ◌-◌, ◌<◌, ◌≤◌, Bool, true, false, cond, ◌||◌, List, [], ◌∷◌, length, slice_index, slice_set, min, max, ltb, replicate}
-use mathlib.Core.Option.{some}
-use lib.ListN.{get_elem?}
-use Rattle.atomic_table.specs.Table.{State, Me, Step}
-use Rattle.atomic_table.specs.Seated.{TableId}
-use Rattle.atomic_table.specs.declared.shared.Seat.{Seat}
+use Rattle.std.specs.Prelude.{◌≡◌, ℕ, ◌+◌, ◌-◌, ◌≤◌, false, cond, ◌||◌, List, [], ◌∷◌, slice_index, slice_set, max, ltb}
+use Rattle.atomic_table.specs.Table.{Me, Step}
 use Rattle.ag_model.specs.declared.record.Log.{Log}
-use Rattle.ag_model.specs.Prefixes.{end_of, IsPrefix}
+use Rattle.ag_model.specs.Prefixes.{end_of}
 use Rattle.ag_front.specs.declared.view.View.{View}
 use Rattle.ag_front.specs.declared.rule.Slot.{Slot}
 use Rattle.ag_front.specs.Rule.{IsSound, empty_log}

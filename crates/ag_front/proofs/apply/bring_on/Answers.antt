@@ -1,4 +1,4 @@
-use Rattle.std.proofs.Common.{◌≡◌, ◌<◌, ◌≤◌, ◌+◌, ℕ, arith}
+use Rattle.std.proofs.Common.{arith}
 use Rattle.ag_front.proofs.Applying.{can_apply, brought, stays_on}
 use Rattle.ag_front.proofs.apply.bring_on.Goals as goal
 

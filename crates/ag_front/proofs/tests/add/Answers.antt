@@ -1,4 +1,4 @@
-use Rattle.std.proofs.Common.{◌≡◌, ap}
+use Rattle.std.proofs.Common.{ap}
 use Rattle.ag_model.specs.declared.message.Block.{Block}
 use Rattle.ag_front.proofs.TestLogs.{put_proper}
 use Rattle.ag_front.proofs.tests.add.Goals as goal

@@ -1,4 +1,4 @@
-use Rattle.std.proofs.Common.{◌≡◌, ◌≤◌}
+use Rattle.std.proofs.Common.{◌≡◌}
 use Rattle.ag_front.proofs.tests.redo.Given as goal
 
 abbrev pub invariant-loop-stripe : goal.invariant-loop-stripe

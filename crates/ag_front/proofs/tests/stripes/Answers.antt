@@ -1,4 +1,4 @@
-use Rattle.std.proofs.Common.{◌≡◌, ◌≤◌, ◌+◌, ℕ, arith, subst}
+use Rattle.std.proofs.Common.{◌≡◌, arith, subst}
 use Rattle.ag_front.proofs.TestLogs.{AreNew, next_new, are_stripes, sixteen_pages}
 use Rattle.ag_front.proofs.TestPages.{standing_of}
 use Rattle.ag_front.proofs.tests.stripes.Goals as goal

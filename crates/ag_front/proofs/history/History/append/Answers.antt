@@ -1,5 +1,4 @@
-use Rattle.std.proofs.Common.{◌++◌, length, ap, sym, ◌∙◌}
-use Rattle.ag_front.specs.Starts.{starts_after}
+use Rattle.std.proofs.Common.{sym}
 use Rattle.ag_front.proofs.Starts.{starts_whole}
 use Rattle.ag_front.proofs.history.History.append.Goals as goal
 

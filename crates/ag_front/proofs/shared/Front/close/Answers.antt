@@ -1,4 +1,4 @@
-use Rattle.std.proofs.Common.{rules, ◌≡◌, ◌<◌, ◌≤◌, ◌+◌, ℕ, List, [], ◌∷◌, ◌++◌, arith, sym, subst, ap, ◌∙◌, refl, vec_capacity}
+use Rattle.std.proofs.Common.{◌≡◌, ◌+◌, List, arith, sym, subst, ◌∙◌}
 use Rattle.ag_front.specs.declared.rule.Slot.{Slot}
 use Rattle.ag_front.specs.Closes.{AllHome, ClosedStripes}
 use Rattle.ag_front.proofs.Closing.{all_home, closed_none, closed_next, emptied, still_full, same_slot}

@@ -1,4 +1,4 @@
-use Rattle.std.proofs.Common.{◌≡◌, ◌<◌, ◌≤◌, ℕ, true, false, get_or, length, vec_capacity}
+use Rattle.std.proofs.Common.{◌≡◌, ◌<◌, ◌≤◌, ℕ, true, false, get_or, vec_capacity}
 use Rattle.ag_front.specs.Closes.{AllHome, ClosedStripes}
 use Rattle.ag_front.proofs.shared.Front.close.Given as goal
 

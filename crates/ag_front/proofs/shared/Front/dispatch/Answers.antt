@@ -1,11 +1,8 @@
-use Rattle.std.proofs.Common.{◌≡◌, ◌<◌, ◌≤◌, ◌+◌, ◌^◌, ℕ, List, [], ◌∷◌, length, arith, sym, subst, ap, ◌∙◌}
+use Rattle.std.proofs.Common.{◌≡◌, ◌∷◌, sym, ◌∙◌}
 use Rattle.atomic_table.specs.Table.{rest}
-use Rattle.ag_model.specs.declared.record.Log.{Log}
-use Rattle.ag_model.specs.Blocks.{with_block}
-use Rattle.ag_model.specs.Prefixes.{end_of, IsPrefix}
 use Rattle.ag_front.specs.declared.rule.Slot.{Slot}
-use Rattle.ag_front.specs.declared.rule.Slot.TheVariants.{History, Away}
-use Rattle.ag_front.proofs.Logging.{log_in_hand, may_give_log, log_further, log_visited}
+use Rattle.ag_front.specs.declared.rule.Slot.TheVariants.{History}
+use Rattle.ag_front.proofs.Logging.{log_in_hand, log_further, log_visited}
 use Rattle.ag_front.proofs.shared.Front.dispatch.Goals as goal
 
 pub exchange-slot-requires : goal.exchange-slot-requires

@@ -1,9 +1,7 @@
-use Rattle.std.proofs.Common.{◌≡◌, ◌<◌, ◌≤◌, ◌+◌, ℕ, List, [], ◌∷◌, get_or, set, arith, sym, subst, ap, ◌∙◌}
+use Rattle.std.proofs.Common.{◌≡◌, ◌∷◌, set, arith, sym, ◌∙◌}
 use Rattle.atomic_table.specs.Table.{rest}
-use Rattle.ag_model.specs.declared.record.Log.{Log}
-use Rattle.ag_model.specs.Prefixes.{IsPrefix}
 use Rattle.ag_front.specs.declared.rule.Slot.{Slot}
-use Rattle.ag_front.specs.declared.rule.Slot.TheVariants.{History, Away}
+use Rattle.ag_front.specs.declared.rule.Slot.TheVariants.{History}
 use Rattle.ag_front.proofs.Logging.{log_in_hand, log_visited_same}
 use Rattle.ag_front.proofs.shared.Front.fetch.Goals as goal
 

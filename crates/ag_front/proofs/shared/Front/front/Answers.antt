@@ -1,5 +1,4 @@
-use Rattle.std.proofs.Common.{rules, ◌≡◌, ◌<◌, ℕ, ◌+◌, sym, ap, ◌∙◌, subst, refl, arith, min}
-use Rattle.ag_front.specs.declared.view.View.{View}
+use Rattle.std.proofs.Common.{rules, ◌≡◌, ℕ, ◌+◌, ◌∙◌, subst, arith, min}
 use Rattle.ag_front.proofs.Keeps.{loads}
 use Rattle.ag_front.specs.Passes.{Loading}
 use Rattle.ag_front.proofs.Loads.{loading_first, loading_next, least_is, least_rises}

@@ -1,9 +1,9 @@
-use Rattle.std.proofs.Common.{rules, ◌≡◌, ◌<◌, ◌≤◌, ◌+◌, ◌%◌, ◌^◌, ℕ, List, [], ◌∷◌, arith, sym, subst, ap, ◌∙◌, refl, get_or}
+use Rattle.std.proofs.Common.{◌≡◌, ◌+◌, ◌%◌, ◌^◌, ℕ, List, [], ◌∷◌, arith, sym, subst, ap, ◌∙◌, get_or}
 use Rattle.atomic_table.specs.Table.{Me, rest, step, Allows}
 use mathlib.Core.Option.{none}
 use Rattle.ag_front.specs.declared.view.View.{View}
 use Rattle.ag_front.specs.declared.rule.Slot.{Slot}
-use Rattle.ag_front.specs.declared.rule.Slot.TheVariants.{Stripe, Away}
+use Rattle.ag_front.specs.declared.rule.Slot.TheVariants.{Stripe}
 use Rattle.ag_front.specs.Rule.{FollowsRule}
 use Rattle.ag_front.specs.Slots.{stripe_given}
 use Rattle.ag_front.proofs.Giving.{gives_stripe}

@@ -1,6 +1,6 @@
-use Rattle.std.proofs.Common.{rules, ◌≡◌, ◌≢◌, ◌<◌, ◌≤◌, ◌+◌, ◌%◌, ◌^◌, ◌-◌, ℕ, sym, subst, ap, arith, ◌∙◌, refl, get_or, []}
+use Rattle.std.proofs.Common.{◌≡◌, ◌+◌, ◌%◌, arith, ◌∙◌, refl}
 use Rattle.ag_front.proofs.Taking.{takes_stripe}
-use Rattle.ag_front.proofs.Grabbing.{took_first, took_second, took_turn, missed_turn, busy_once, busy_twice}
+use Rattle.ag_front.proofs.Grabbing.{took_second, took_turn, missed_turn, busy_twice}
 use Rattle.ag_front.proofs.shared.Front.grab_stripe.Goals as goal
 
 pub compare_exchange-found-requires : goal.compare_exchange-found-requires

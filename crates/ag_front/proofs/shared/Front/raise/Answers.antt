@@ -1,4 +1,4 @@
-use Rattle.std.proofs.Common.{rules, ◌≡◌, ◌<◌, ℕ, sym, subst, ap, arith, get_or}
+use Rattle.std.proofs.Common.{rules, ◌≡◌, ap, arith, get_or}
 use Rattle.ag_front.proofs.Keeps.{raises}
 use Rattle.ag_front.proofs.shared.Front.raise.Goals as goal
 

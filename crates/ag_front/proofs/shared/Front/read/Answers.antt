@@ -1,6 +1,4 @@
-use Rattle.std.proofs.Common.{◌≡◌, ℕ, subst, ap, get_or, refl, ◌∙◌}
-use Rattle.ag_front.specs.Applies.{RowVisited, StripeVisited, stripe_of_key}
-use Rattle.ag_front.proofs.Waits.{waiting_first, waiting_next, row_visited, waited_front, front_ends}
+use Rattle.ag_front.proofs.Waits.{waiting_first, waited_front, front_ends}
 use Rattle.ag_front.proofs.shared.Front.read.Goals as goal
 
 pub loop-init : goal.loop-init

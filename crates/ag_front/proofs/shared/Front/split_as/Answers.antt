@@ -1,4 +1,4 @@
-use Rattle.std.proofs.Common.{rules, ◌≡◌, ◌<◌, ℕ, sym, subst, arith}
+use Rattle.std.proofs.Common.{arith}
 use Rattle.ag_front.proofs.Keeps.{splits}
 use Rattle.ag_front.proofs.shared.Front.split_as.Goals as goal
 

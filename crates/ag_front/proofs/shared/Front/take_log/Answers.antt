@@ -1,4 +1,4 @@
-use Rattle.std.proofs.Common.{rules, ◌≡◌, ◌<◌, ◌≤◌, ◌+◌, ◌%◌, ◌^◌, ℕ, List, [], ◌∷◌, arith, sym, subst, ap, ◌∙◌, refl, get_or}
+use Rattle.std.proofs.Common.{◌≡◌, ◌+◌, ◌%◌, arith, ◌∙◌, refl}
 use Rattle.ag_front.proofs.Giving.{takes_log}
 use Rattle.ag_front.proofs.Logging.{trying_none, trying_next, took_log}
 use Rattle.ag_front.proofs.shared.Front.take_log.Goals as goal

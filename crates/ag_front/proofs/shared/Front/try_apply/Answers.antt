@@ -1,7 +1,7 @@
-use Rattle.std.proofs.Common.{rules, ◌≡◌, ◌<◌, ◌≤◌, ◌+◌, ℕ, List, [], ◌∷◌, length, arith, sym, subst, ap, ◌∙◌, get_or, set}
+use Rattle.std.proofs.Common.{rules, ◌≡◌, ◌<◌, ◌≤◌, ◌+◌, ℕ, ◌∷◌, arith, sym, subst, ◌∙◌, get_or, set}
 use Rattle.atomic_table.specs.Table.{rest}
 use Rattle.ag_front.specs.declared.rule.Slot.{Slot}
-use Rattle.ag_front.specs.declared.rule.Slot.TheVariants.{Stripe, Away}
+use Rattle.ag_front.specs.declared.rule.Slot.TheVariants.{Stripe}
 use Rattle.ag_front.specs.Applies.{StripeVisited}
 use Rattle.ag_front.proofs.Applying.{in_hand, visited, can_bring, may_give}
 use Rattle.ag_front.proofs.shared.Front.try_apply.Goals as goal

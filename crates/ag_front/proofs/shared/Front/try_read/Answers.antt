@@ -1,8 +1,8 @@
-use Rattle.std.proofs.Common.{rules, ◌≡◌, ◌<◌, ◌≤◌, ◌+◌, ◌%◌, ℕ, List, [], ◌∷◌, false, length, arith, sym, subst, ap, ◌∙◌, get_or, set}
+use Rattle.std.proofs.Common.{rules, ◌≡◌, ◌<◌, ℕ, [], ◌∷◌, arith, sym, subst, ap, ◌∙◌, get_or, set}
 use Rattle.atomic_table.specs.Table.{rest}
 use Rattle.ag_model.specs.Rows.{page_of}
 use Rattle.ag_front.specs.declared.rule.Slot.{Slot}
-use Rattle.ag_front.specs.declared.rule.Slot.TheVariants.{Stripe, Away}
+use Rattle.ag_front.specs.declared.rule.Slot.TheVariants.{Stripe}
 use Rattle.ag_front.specs.Applies.{StripeVisited, stripe_of_key}
 use Rattle.ag_front.proofs.Applying.{in_hand, visited, row_read, old_read}
 use Rattle.ag_front.proofs.shared.Front.try_read.Goals as goal

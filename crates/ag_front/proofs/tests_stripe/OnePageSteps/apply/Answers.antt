@@ -1,4 +1,3 @@
-use Rattle.std.proofs.Common.{sym}
 use Rattle.ag_front.proofs.TestPages.{stands_then}
 use Rattle.ag_front.proofs.tests_stripe.OnePageSteps.apply.Goals as goal
 
