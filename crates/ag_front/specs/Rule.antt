@@ -42,6 +42,7 @@ published words k = slice_index words k
 abbrev pub turn_of : List ℕ → ℕ → ℕ
 turn_of words k = slice_index words (16 + k)
 
+-- the least of a number and some more
 abbrev pub least_from : ℕ → List ℕ → ℕ
 least_from m [] = m
 least_from m (x ∷ xs) = least_from (min m x) xs
@@ -60,6 +61,7 @@ pub record IsSizedOf (floor done turn takes tries loads : List ℕ) : Type 0 whe
   pub tries_size : length tries ≡ 17
   pub loads_size : length loads ≡ 16
 
+-- the log and both old ones fit, and each applied LSN, and each floor as far as the log goes, ends a block of it
 pub record IsSoundOf (pages : ℕ) (seen first second : Log) (floor done turn takes tries loads : List ℕ) : Type 0 where
   pub sized : IsSizedOf floor done turn takes tries loads
   pub proper : IsProper pages seen

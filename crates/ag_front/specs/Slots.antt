@@ -13,6 +13,7 @@ use Rattle.ag_front.specs.declared.rule.Slot.TheVariants.{Stripe, History}
 use Rattle.ag_front.specs.Rule.{IsSound, StandsAt}
 use Rattle.ag_front.specs.Steps.{Hold}
 
+-- the counts with one more at k
 abbrev pub counted_up : List ℕ → ℕ → List ℕ
 counted_up xs k = slice_set xs k (slice_index xs k + 1)
 
@@ -32,6 +33,7 @@ with_stripe v k seen at turn tries = record v {
   at = at;
 }
 
+-- the log was taken, and is this one
 abbrev pub with_log : View → Log → List ℕ → List ℕ → View
 with_log v seen turn tries = record v {
   seen = seen;
@@ -47,6 +49,7 @@ abbrev pub MayGive : View → Log → Type 0
 MayGive v log = (log ≡ v.seen) ⊎ ((v.author ≡ true) × (new : List Record) × (log ≡ with_block v.seen new) × IsProper v.pages log)
 
 module _ {T : Type 0} where
+  -- the slot k was not taken at this try, which found n
   abbrev pub Missed : ℕ → Hold T → ℕ → Hold T → Type 0
   Missed k m n m' = (m' ≡ (tried m.0 k n, m.1)) × (slice_index m.0.turn k ≤ n) × IsSound m'.0
 
@@ -62,6 +65,7 @@ module _ {T : Type 0} (standing : T → Standing) where
     pub done : slice_index m.0.done k ≤ (standing stripe).applied
     pub sound : IsSound m'.0
 
+  -- a compare and exchange on a stripe's turn word took the stripe, or found another number
   abbrev pub stripe_tried : Step (Slot T) → Hold T → ℕ → Hold T → Type 0
   stripe_tried st m n m' = (k : ℕ) → st.word ≡ 16 + k → (n ≡ st.first → HasStripe k m (slice_set m.0.turn k st.second) (counted_up m.0.tries k) m') × (n ≢ st.first → Missed k m n m')
 
@@ -70,6 +74,7 @@ module _ {T : Type 0} (standing : T → Standing) where
   stripe_given st m n m' = (k : ℕ) (t : T) → m.1 ≡ (k, Stripe t) ∷ [] → (n < 2 ^ 64 - 1) × (m' ≡ (record m.0 { done = slice_set m.0.done k (standing t).applied; turn = slice_set m.0.turn k (n + 1); hand = 0 }, [])) × (slice_index m.0.turn k ≤ n + 1) × IsSound m'.0
 
 module _ {T : Type 0} where
+  -- the pass has the log, and has seen all of it
   pub record HasLog (m : Hold T) (turn tries : List ℕ) (m' : Hold T) : Type 0 where
     pub log : Log
     pub is : m' ≡ (with_log m.0 log turn tries, (16, History log) ∷ m.1)
@@ -78,9 +83,11 @@ module _ {T : Type 0} where
     pub whole : m.0.author ≡ true → m.0.seen ≡ log
     pub sound : IsSound m'.0
 
+  -- a compare and exchange on the log's turn word took the log, or found another number
   abbrev pub log_tried : Step (Slot T) → Hold T → ℕ → Hold T → Type 0
   log_tried st m n m' = (n ≡ st.first → HasLog m (slice_set m.0.turn 16 st.second) (counted_up m.0.tries 16) m') × (n ≢ st.first → Missed 16 m n m')
 
+  -- the log that the pass holds goes home
   abbrev pub log_given : Step (Slot T) → Hold T → ℕ → Hold T → Type 0
   log_given st m n m' = (log : Log) → m.1 ≡ (16, History log) ∷ [] → (n < 2 ^ 64 - 1) × (m' ≡ (record m.0 { seen = log; turn = slice_set m.0.turn 16 (n + 1); hand = 0 }, [])) × IsSound m'.0
 

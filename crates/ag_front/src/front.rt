@@ -12,7 +12,7 @@ use ag_model::stands::Stands;
 use std::marker::Brand;
 
 impl<T: Stands> Front<T> {
-    /// The least published number.
+    /// The front: the least published LSN of the sixteen that it loads.
     pub fn front(&self, pass: &mut Pass<T>) -> u64
         requires own { pass.old.seat.table_id ≡ self.now.table.shared.table_id }
         ensures own { (pass.new.seat.table_id ≡ pass.old.seat.table_id) × (pass.new.seat.id ≡ pass.old.seat.id) }
@@ -31,12 +31,13 @@ impl<T: Stands> Front<T> {
         low
     }
 
-    /// Raises the published word of a stripe to where the pass knows it applied.
+    /// Raises the published LSN of a stripe to the LSN up to which the pass knows it applied, if it is lower,
+    /// and answers the published LSN then.
     pub fn raise(&self, pass: &mut Pass<T>, stripe: u8) -> u64
         requires own { pass.old.seat.table_id ≡ self.now.table.shared.table_id }
         requires stripe { stripe < 16 }
         ensures own { (pass.new.seat.table_id ≡ pass.old.seat.table_id) × (pass.new.seat.id ≡ pass.old.seat.id) }
-        ensures raised { slice_index pass.old.done stripe ≤ result }
+        ensures raised { slice_index pass.old.seat.me.0.done stripe ≤ result }
         ensures risen { slice_index pass.old.seat.me.0.floor stripe ≤ result }
         ensures only { pass.new.seat.me.0 ≡ after_raise pass.old.seat.me.0 stripe result }
     {
@@ -67,7 +68,7 @@ impl<T: Stands> Front<T> {
         }
     }
 
-    /// A pass with so many parts of this one's, that has seen the same.
+    /// A pass with so many parts of this one's, that has seen the same and isn't the author.
     pub fn split(&self, pass: &mut Pass<T>, parts: u32) -> Pass<T>
         requires own { pass.old.seat.table_id ≡ self.now.table.shared.table_id }
         requires parts { (0 < parts) × (parts < pass.old.seat.me.0.parts) }
