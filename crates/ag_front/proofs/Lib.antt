@@ -14,3 +14,4 @@ mod Waits
 mod Closing
 mod TestPages
 mod TestLogs
+mod Examples
