@@ -4,3 +4,8 @@ pub mod LogCopies
 pub mod Fitting
 pub mod LogMore
 pub mod Cuts
+pub mod Standing
+pub mod Chains
+pub mod Appending
+pub mod Raising
+pub mod Runs

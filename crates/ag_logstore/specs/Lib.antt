@@ -1,1 +1,5 @@
 pub mod LogKept
+pub mod Stored
+pub mod LogOf
+pub mod Stores
+pub mod ReadOnly
