@@ -76,7 +76,7 @@ its_block image after s b cur f st =
       current = λ _. omega (arith, f.incarnation);
     }
 
-with_more : (bs : List Stored) (b : Stored) → log_of_blocks (bs ++ b ∷ []) ≡ with_block (log_of_blocks bs) b.records
+pub with_more : (bs : List Stored) (b : Stored) → log_of_blocks (bs ++ b ∷ []) ≡ with_block (log_of_blocks bs) b.records
 with_more bs b = fold-append (λ log (x : Stored). with_block log x.records) no_log bs (b ∷ [])
 
 -- an incarnation that the store has, or a higher one, isn't named after the blocks

@@ -9,3 +9,4 @@ pub mod Chains
 pub mod Appending
 pub mod Raising
 pub mod Runs
+pub mod Found

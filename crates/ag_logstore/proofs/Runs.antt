@@ -1,6 +1,7 @@
 -- Calls of a disk one after the other.
 use Rattle.std.proofs.Common.{◌≡◌, ◌⊎◌, ℕ, ◌+◌, ◌≤◌, List, [], ◌∷◌, ◌++◌, Bool, Result, Ok, Err, refl, sym, ap, ◌∙◌, subst, arith, inl, inr, ⊎_elim, append_assoc}
 use Rattle.std.specs.Prelude.{IsErrOf}
+use Rattle.std.specs.Result.{IsErrAnd}
 use Rattle.ag_outside.specs.declared.disk.Found.{Found}
 use Rattle.ag_outside.specs.declared.disk.DiskError.{DiskError}
 use Rattle.ag_outside.specs.declared.disk.DiskError.TheVariants.{Failed}
@@ -13,6 +14,10 @@ use Rattle.ag_logstore.specs.ReadOnly.{OnlyReads, FailsReading}
 
 pub err_is : {T E : Type 0} {e f : E} → IsErrOf {T = T} (Err e) f → e ≡ f
 err_is is = cc is
+
+-- an error that is handed on
+pub handed_on : {T U E : Type 0} (r : Result T E) (from : Result U E) (x e : E) → IsErrAnd r (λ y. y ≡ x) → IsErrOf r e → from ≡ Err x → IsErrOf from e
+handed_on {T = T} {E = E} r from x e h is was = was ∙ ap (λ y. Err y) (sym (subst (λ (z : Result T E). IsErrAnd z (λ y. y ≡ x)) is h))
 
 module _ {D : Type 0} (did : D → Call → D → Type 0) where
   leads_then : (a b c : D) (xs ys : List Call) → Leads did a xs b → Leads did b ys c → Leads did a (xs ++ ys) c

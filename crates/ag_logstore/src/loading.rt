@@ -1,5 +1,5 @@
 //! Reading the blocks of a disk.
-ghost use Rattle.std.specs.Prelude.{◌≡◌, ◌⊎◌, ◌+◌, ◌-◌, ◌<◌, ◌≤◌, ◌++◌, [], ◌∷◌, ℕ, length, IsTrue, MatchOption, IfOk, OnOk, OnErr, IsErrOf};
+ghost use Rattle.std.specs.Prelude.{◌≡◌, ◌⊎◌, ◌↔◌, ◌+◌, ◌-◌, ◌<◌, ◌≤◌, ◌++◌, [], ◌∷◌, ℕ, length, IsTrue, MatchOption, IfOk, OnOk, OnErr, IsErrOf};
 ghost use Rattle.ag_model.specs.Sizes.{block_sectors};
 ghost use Rattle.ag_record.specs.Spelling.{records_spelling, ArePayload};
 ghost use Rattle.ag_logblock.specs.Block.{HasBlock};
@@ -41,16 +41,26 @@ pub(crate) fn read_log<D: Disk>(
     let mut log = HardenedLog::new(alloc);
     let mut least = 0;
     let mut at = LOG_START;
-    while let Some((head, mut records)) = read_block(alloc, disk, at)? {
-        let is_current = head.first <= cut || head.incarnation >= incarnation;
-        if head.first.checked_sub(1) != Some(log.end()) || head.incarnation < least || !is_current {
-            break;
+    'blocks: loop {
+        let Some((head, mut records)) = read_block(alloc, disk, at)? else {
+            return Ok(log);
+        };
+        if !is_next(&head, log.end(), least, cut, incarnation) {
+            return Ok(log);
         }
         at += block_sectors_of(small_size(records.as_slice())) as u32;
         least = head.incarnation;
         log.append(&mut records)?;
     }
-    Ok(log)
+}
+
+/// Whether a block with this head may follow the blocks of a log.
+fn is_next(head: &Head, end: u64, least: u64, cut: u64, incarnation: u64) -> bool
+    ensures { IsTrue result ↔ (head.now.first ≡ end + 1) × (least ≤ head.now.incarnation) × (cut ≤ end → incarnation ≤ head.now.incarnation) }
+{
+    head.first.checked_sub(1) == Some(end)
+        && head.incarnation >= least
+        && (end < cut || head.incarnation >= incarnation)
 }
 
 /// The block that stands at a sector of the log, if one does.
