@@ -41,7 +41,7 @@ pub(crate) fn read_log<D: Disk>(
     let mut log = HardenedLog::new(alloc);
     let mut least = 0;
     let mut at = LOG_START;
-    'blocks: loop {
+    'reading: loop {
         let Some((head, mut records)) = read_block(alloc, disk, at)? else {
             return Ok(log);
         };
