@@ -11,7 +11,7 @@ use Rattle.ag_logblock.specs.declared.Head.{Head}
 use Rattle.ag_logstore.specs.LogOf.{IsLogOf}
 use Rattle.ag_logstore.specs.Stored.{log_start, log_end, Stored, sectors_of, StandAt, IsStored, AreSectorsOf, sectors_at, named_count, Place, first_place, after_block, place_after, IsNext, AreStored, no_log, log_of_blocks}
 use Rattle.ag_logstore.proofs.Chains.{one_more, log_from, ends_after, ends_first}
-use Rattle.ag_logstore.proofs.Appending.{with_more}
+use Rattle.ag_logstore.proofs.Written.{with_more}
 use Rattle.ag_logstore.proofs.Standing.{one_block, IsWritable, some_sectors, few_sectors, writable, block_says, count_of_block, stand_from, length-sectors_at, sectors_at_are}
 
 -- a sector more

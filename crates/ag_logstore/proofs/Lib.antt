@@ -6,7 +6,7 @@ pub mod LogMore
 pub mod Cuts
 pub mod Standing
 pub mod Chains
-pub mod Appending
+pub mod Written
 pub mod Raising
 pub mod Runs
 pub mod Found

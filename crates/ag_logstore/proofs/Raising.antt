@@ -2,7 +2,7 @@
 use Rattle.std.proofs.Common.{◌≡◌, ◌⊎◌, ℕ, zero, suc, ◌+◌, ◌-◌, ◌<◌, ◌≤◌, List, [], ◌∷◌, ◌++◌, length, get_or, take, refl, sym, ap, ◌∙◌, subst, arith, inl, inr, length-append, append_assoc}
 use Rattle.std.specs.Prelude.{Contains, nat_le}
 use Rattle.std.specs.List.{fold, filter}
-use Rattle.std.proofs.lemmas.List.{take_at, append-nil}
+use Rattle.std.proofs.lemmas.List.{take_at, append-nil, get_or_append_left}
 use Rattle.std.proofs.lemmas.List.Sums.{fold-append}
 use Rattle.std.proofs.lemmas.List.Elements.{filter-append}
 use Rattle.ag_model.specs.declared.record.Record.{Record}
@@ -133,3 +133,21 @@ raises image s end incarnation l block up below =
         let some = some_sectors b (writable image x b n.stored) in
         let is = incarnation_is image x x b n.stored (omega arith) (omega (arith, some)) in
         absurd (omega (arith, n.current (omega (arith, lsn)), is, below x (omega (arith, places_rise image end incarnation first_place front), omega (arith, some, n.stored.within))))
+
+-- the last end is where the log ends
+last_end : (low high : ℕ) (es : List ℕ) → RisesTo low high es → (high ≡ low) ⊎ Contains es high
+last_end low high [] p = inl (sym p)
+last_end low high (e ∷ es) p = elim (last_end e high es p.1) [
+  | inl here ↦ inr (0, omega arith, sym here)
+  | inr later ↦ inr (suc later.0, omega (arith, later.1), later.2)
+]
+
+contains_left : (xs ys : List ℕ) (x : ℕ) → Contains xs x → Contains (xs ++ ys) x
+contains_left xs ys x there = (there.0, omega (arith, there.1, length-append xs ys), get_or_append_left xs ys x there.0 there.1 ∙ there.2)
+
+-- a log that grew can be cut where it was
+pub can_cut_back : (log : Log) (new : List Record) → RisesTo 0 (length log.records) log.ends → (length log.records ≡ 0) ⊎ Contains (with_block log new).ends (length log.records)
+can_cut_back log new rises = elim (last_end 0 (length log.records) log.ends rises) [
+  | inl none ↦ inl none
+  | inr there ↦ inr (contains_left log.ends ((length log.records + length new) ∷ []) (length log.records) there)
+]

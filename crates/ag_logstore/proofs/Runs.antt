@@ -61,6 +61,9 @@ module _ {D : Type 0} (did : D → Call → D → Type 0) where
     last = inr (Sync_call result ∷ next.fails.0, next.fails.1, ap (λ zs. Sync_call result ∷ zs) next.fails.2);
   }
 
+  pub sync_fails : (a b : D) (result : Result (Unit {0}) DiskError) → did a (Sync_call result) b → result ≡ Err Failed → FailsOnTheWay did a [] b
+  sync_fails a b result went is = record { calls = Sync_call result ∷ []; leads = (b, went, refl); last = inl (ap (λ r. Sync_call r ∷ []) is) }
+
   pub one_fails : (a b : D) (at : ℕ) (result : Result Found DiskError) → did a (Read_call at result) b → result ≡ Err Failed → FailsReading did a b
   one_fails a b at result went is = record { calls = Read_call at result ∷ []; leads = (b, went, refl); fails = ([], at, ap (λ r. Read_call at r ∷ []) is) }
 
@@ -73,6 +76,9 @@ still_written ws a b c first next image is at = elim (next at (image at) (is at)
   | inl before ↦ first at (image at) before
   | inr none ↦ absurd none
 ]
+
+pub no_more : (a b : ℕ → Content → Type 0) → MayAdd [] a b → (image : Image) → IsImage b image → IsImage a image
+no_more a b next image is at = elim (next at (image at) (is at)) [ inl was ↦ was | inr none ↦ absurd none ]
 
 -- a write and a sync
 abbrev pub one_piece : ℕ → List (List ℕ) → List Piece

@@ -1,6 +1,7 @@
 //! The log of a replica: hardened in memory, and kept on a disk.
 #![tactic(auto)]
 
+mod appending;
 mod cutting;
 mod fault;
 mod growth;

@@ -11,19 +11,15 @@ ghost use Rattle.ag_logstore.specs.Stored.{log_end, sectors_of};
 ghost use Rattle.ag_logstore.specs.LogOf.{IsLogOf};
 ghost use Rattle.ag_logstore.specs.Stores.{StoreView, sector_after, stored_by, IsReady, IsBeforeOrAfter};
 
+use crate::appending::harden;
 use crate::fault::{LogFault, fault_of};
 use crate::hardened::HardenedLog;
 use crate::loading::read_log;
-use crate::sizes::{block_sectors_of, copy_of, small_size};
-use crate::writing::write_synced;
-use ag_logblock::{Head, cut_up};
+use crate::sizes::{block_sectors_of, small_size};
 use ag_model::message::Block;
-use ag_outside::disk::{Disk, Sector};
+use ag_outside::disk::Disk;
 use std::alloc::Global;
 use std::marker::Model;
-
-/// The first sector after the log.
-const LOG_END: u32 = 295_232;
 
 /// A log in memory that is kept on a disk.
 #[derive(Debug, Drop)]
@@ -165,35 +161,12 @@ impl LogStore {
         if self.is_closed {
             return Err(LogFault::Closed);
         }
-        let sectors = spell(self.log.alloc(), block, self.incarnation)?;
-        let end = self.log.end();
-        self.log.append(&mut copy_of(&block.records)?)?;
-        match write_synced(disk, LOG_END - free, sectors.as_slice()) {
-            Ok(()) => Ok(self.log.end()),
+        match harden(&mut self.log, disk, self.incarnation, block) {
+            Ok(end) => Ok(end),
             Err(e) => {
-                self.log.cut(end);
-                self.is_closed = e == LogFault::DiskFault;
+                self.is_closed = matches!(e, LogFault::DiskFault);
                 Err(e)
             }
         }
     }
-}
-
-/// The sectors of a block, with this incarnation.
-fn spell(alloc: Global, block: &Block, incarnation: u64) -> Result<Vec<Sector>, LogFault>
-    requires payload { ArePayload block.now.records }
-    requires least { 1 ≤ incarnation }
-    ensures sectors { IfOk result (λ sectors. sectors.items ≡ sectors_of (stored_by incarnation block.now)) }
-    ensures only { OnErr result (result ≡ Err LogFault.NoMemory) }
-{
-    let head = Head {
-        term: block.term,
-        incarnation,
-        first: block.first,
-    };
-    let mut payload = Vec::new(alloc);
-    ag_record::encode_all(block.records.as_slice(), &mut payload)?;
-    let mut sectors = Vec::new(alloc);
-    cut_up(&head, payload.as_slice(), &mut sectors)?;
-    Ok(sectors)
 }

@@ -1,4 +1,4 @@
-use Rattle.ag_logstore.proofs.Appending.{current_with, torn_log, old_or_with, still_greatest}
+use Rattle.ag_logstore.proofs.Written.{current_with, torn_log, old_or_with, still_greatest}
 use Rattle.ag_logstore.proofs.laws.torn_blocks.Goals as goal
 
 pub returns-clause-whole : goal.returns-clause-whole

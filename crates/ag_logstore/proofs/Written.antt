@@ -1,11 +1,12 @@
 -- What a write of a block makes of the log of an image.
-use Rattle.std.proofs.Common.{◌≡◌, ◌⊎◌, ℕ, ◌+◌, ◌^◌, ◌<◌, ◌≤◌, List, [], ◌∷◌, ◌++◌, length, Bool, IsTrue, refl, sym, ap, ◌∙◌, subst, arith, inl, inr}
+use Rattle.std.proofs.Common.{◌≡◌, ◌⊎◌, ℕ, ◌+◌, ◌-◌, ◌^◌, ◌<◌, ◌≤◌, List, [], ◌∷◌, ◌++◌, length, Bool, IsTrue, refl, sym, ap, ◌∙◌, subst, arith, inl, inr}
 use Rattle.std.proofs.lemmas.Bool.{cases_lt}
 use Rattle.std.proofs.lemmas.List.Sums.{fold-append}
 use Rattle.ag_model.specs.declared.record.Record.{Record}
 use Rattle.ag_model.specs.declared.record.Log.{Log}
 use Rattle.ag_model.specs.Blocks.{with_block}
-use Rattle.ag_model.specs.Sizes.{block_sectors, log_sectors}
+use Rattle.ag_model.specs.Sizes.{block_sectors, log_sectors, free_sectors}
+use Rattle.ag_record.proofs.Many.{length-records}
 use Rattle.ag_record.specs.Spelling.{records_spelling, ArePayload}
 use Rattle.ag_logblock.specs.declared.Head.{Head}
 use Rattle.ag_logblock.specs.Block.{HasBlock}
@@ -166,3 +167,17 @@ current_with image after s b cur f torn st =
 
 pub torn_by_writes : (image : Image) (at : ℕ) (ss : List (List ℕ)) → IsTorn image at ss (put_all image (writes at ss))
 torn_by_writes image at ss = was_or_wrote (writes at ss) image
+
+-- where a block goes that has room
+pub place_is : (log : Log) (records : List Record) (first : ℕ) → ArePayload records → block_sectors records ≤ free_sectors log → first ≡ log_end - free_sectors log → first ≡ sector_after log
+place_is log records first payload room is =
+    let bytes = length-records records payload.fit in
+    let least = payload.least in
+    omega (arith, is, room, bytes, least)
+
+-- its sectors are in the log
+pub room_is : (log : Log) (b : Stored) → IsWritable b → block_sectors b.records ≤ free_sectors log → sector_after log + block_sectors b.records ≤ log_end
+room_is log b w room = omega (arith, room, some_sectors b w)
+
+pub moved_to : (P : ℕ → List (List ℕ) → Type 0) (a b : ℕ) (xs ys : List (List ℕ)) → a ≡ b → xs ≡ ys → P a xs → P b ys
+moved_to P a b xs ys n e p = subst (λ zs. P b zs) e (subst (λ m. P m xs) n p)
