@@ -10,3 +10,4 @@ pub mod Written
 pub mod Raising
 pub mod Runs
 pub mod Found
+pub mod Storing

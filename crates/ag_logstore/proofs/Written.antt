@@ -28,7 +28,7 @@ abbrev pub store_with : StoreView → List Record → StoreView
 store_with s records = record s { log = with_block s.log records }
 
 -- what a torn write leaves outside the block, and in it
-outside : (image after : Image) (at x : ℕ) (b : Stored) → IsWritable b → IsTorn image at (sectors_of b) after → (x < at) ⊎ (at + block_sectors b.records ≤ x) → after x ≡ image x
+pub outside : (image after : Image) (at x : ℕ) (b : Stored) → IsWritable b → IsTorn image at (sectors_of b) after → (x < at) ⊎ (at + block_sectors b.records ≤ x) → after x ≡ image x
 outside image after at x b w torn out = elim (torn x) [
   | inl was ↦ was
   | inr wrote ↦ (let within = wrote_within at x (sectors_of b) (after x) wrote in elim out [
