@@ -11,3 +11,4 @@ pub mod Raising
 pub mod Runs
 pub mod Found
 pub mod Storing
+pub mod Fresh

@@ -4,7 +4,7 @@ ghost use Rattle.ag_model.specs.declared.record.Log.{Log};
 ghost use Rattle.ag_model.specs.Blocks.{with_block, cut_at};
 ghost use Rattle.ag_model.specs.Sizes.{block_sectors};
 ghost use Rattle.ag_outside.specs.Disks.{Image, or_zeros};
-ghost use Rattle.ag_logstore.specs.Stored.{log_start, log_end, IsLogSector, Stored, sectors_of, StandAt, incarnation_at, first_place, place_after, AreStored, log_of_blocks};
+ghost use Rattle.ag_logstore.specs.Stored.{log_start, log_end, IsLogSector, Stored, sectors_of, StandAt, incarnation_at, first_place, place_after, AreStored, no_log, log_of_blocks};
 ghost use Rattle.ag_logstore.specs.LogOf.{IsLogOf};
 ghost use Rattle.ag_logstore.specs.Stores.{StoreView, sector_after, IsCurrent, IsTorn, Follows};
 
@@ -37,4 +37,9 @@ pub fn torn_blocks()
 pub fn raised()
     ensures { (image : Image) (s : StoreView) (end incarnation : ℕ) → IsLogOf image s.cut s.incarnation s.log → (end ≡ 0) ⊎ Contains s.log.ends end → s.incarnation < incarnation
         → ((at : ℕ) → IsLogSector at → incarnation_at image at < incarnation) → IsCurrent image (record { log = cut_at end s.log; cut = end; incarnation = incarnation; is_closed = s.is_closed }) }
+{}
+
+/// Where no sector of the log names an incarnation, as on a disk of zeros, there is no block, and a store can begin.
+pub fn fresh()
+    ensures { (image : Image) (s : StoreView) → ((at : ℕ) → IsLogSector at → incarnation_at image at ≡ 0) → 1 ≤ s.incarnation → s.log ≡ no_log → IsCurrent image s }
 {}
