@@ -1,3 +1,4 @@
+pub mod Blocks
 pub mod LogKept
 pub mod Stored
 pub mod LogOf
