@@ -16,9 +16,12 @@ none_here image cut incarnation p b next zero_ =
     let least = next.stored.head.incarnation in
     absurd (omega (arith, is, zero_, least))
 
-pub fresh : (image : Image) (s : StoreView) → ((at : ℕ) → IsLogSector at → incarnation_at image at ≡ 0) → 1 ≤ s.incarnation → s.log ≡ no_log → IsCurrent image s
-fresh image s zeros some none = record {
-  log = subst (IsLogOf image s.cut s.incarnation) (sym none) (log_from image s.cut s.incarnation [] tt (λ b next. none_here image s.cut s.incarnation first_place b next (zeros log_start (omega arith, omega arith))));
+pub no_blocks : (image : Image) (cut incarnation : ℕ) → ((at : ℕ) → IsLogSector at → incarnation_at image at ≡ 0) → IsLogOf image cut incarnation no_log
+no_blocks image cut incarnation zeros = log_from image cut incarnation [] tt (λ b next. none_here image cut incarnation first_place b next (zeros log_start (omega arith, omega arith)))
+
+pub begins : (image : Image) (s : StoreView) → ((at : ℕ) → IsLogSector at → incarnation_at image at ≡ 0) → IsLogOf image s.cut s.incarnation s.log → 1 ≤ s.incarnation → IsCurrent image s
+begins image s zeros log some = record {
+  log = log;
   greatest = λ at is. omega (arith, zeros at is);
   unused = λ at low high is. omega (arith, zeros at (omega (arith, low), high), is, some);
 }

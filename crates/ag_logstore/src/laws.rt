@@ -41,5 +41,6 @@ pub fn raised()
 
 /// Where no sector of the log names an incarnation, as on a disk of zeros, there is no block, and a store can begin.
 pub fn fresh()
-    ensures { (image : Image) (s : StoreView) → ((at : ℕ) → IsLogSector at → incarnation_at image at ≡ 0) → 1 ≤ s.incarnation → s.log ≡ no_log → IsCurrent image s }
+    ensures empty { (image : Image) (cut incarnation : ℕ) → ((at : ℕ) → IsLogSector at → incarnation_at image at ≡ 0) → IsLogOf image cut incarnation no_log }
+    ensures begins { (image : Image) (s : StoreView) → ((at : ℕ) → IsLogSector at → incarnation_at image at ≡ 0) → IsLogOf image s.cut s.incarnation s.log → 1 ≤ s.incarnation → IsCurrent image s }
 {}

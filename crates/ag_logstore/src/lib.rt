@@ -19,4 +19,6 @@ pub use sizes::{block_sectors_of, copy_of, records_size};
 pub use store::{LogStore, load};
 
 #[cfg(test)]
+mod disk_tests;
+#[cfg(test)]
 mod tests;

@@ -1,5 +1,8 @@
-use Rattle.ag_logstore.proofs.Fresh as fresh_log
+use Rattle.ag_logstore.proofs.Fresh.{no_blocks, begins}
 use Rattle.ag_logstore.proofs.laws.fresh.Goals as goal
 
-pub returns : goal.returns
-returns c = fresh_log.fresh
+pub returns-clause-empty : goal.returns-clause-empty
+returns-clause-empty c = no_blocks
+
+pub returns-clause-begins : goal.returns-clause-begins
+returns-clause-begins c = begins
