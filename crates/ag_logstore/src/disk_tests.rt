@@ -1,6 +1,8 @@
 //! Blocks on disks that stop and fail.
 ghost use Rattle.std.specs.Prelude.{◌≡◌, ◌≤◌, ℕ, IsTrue, IfOk, OnOk, IsErrOf, true, false};
 ghost use Rattle.ag_record.specs.Spelling.{ArePayload};
+ghost use Rattle.ag_outside.specs.MemDisks.{mem_reads};
+ghost use Rattle.ag_outside.specs.Shown.{reads_of};
 ghost use Rattle.ag_logstore.specs.Stored.{log_end, IsLogSector, incarnation_at};
 ghost use Rattle.ag_logstore.specs.Stores.{IsReady};
 
@@ -49,6 +51,16 @@ fn opening(alloc: Global) -> Result<RecordList, NoMemory>
     let mut records = ListOf::new(alloc);
     records.push(Record::Term { term: 1 })?;
     Ok(records)
+}
+
+/// A disk of zeros with an order, over one that fails at the calls of these numbers.
+fn fresh_disk(alloc: Global, failing: Vec<u64>, order: Arm) -> Scripted<MemDisk>
+    ensures { (at : ℕ) → incarnation_at (reads_of mem_reads result) at ≡ 0 }
+{
+    let below = MemDisk::new(alloc, failing, false);
+    let mut disk = Scripted::new(alloc, below);
+    disk.arm(order);
+    disk
 }
 
 /// Appends records as the next block.
@@ -113,22 +125,17 @@ fn put_and_commit(alloc: Global) -> Result<RecordList, NoMemory>
 #[test]
 fn the_sector_of_a_put_and_its_commit(rt: HostRuntime) -> Result<(), Fail> {
     let alloc = rt.alloc();
-    let mut disk = MemDisk::new(alloc, Vec::new(alloc), false);
-    assert_eq!(rt;
-        two_blocks(&rt, alloc, &mut disk, put_and_commit(alloc)?),
-        Ok(3)
-    );
+    let mut disk = fresh_disk(alloc, Vec::new(alloc), Arm::Free);
+    let end = two_blocks(&rt, alloc, &mut disk, put_and_commit(alloc)?);
+    assert_eq!(rt; end, Ok(3));
     let mut sector = [1; 512];
     assert_eq!(rt; disk.read(33_089, &mut sector), Ok(Found::Bytes));
-    let header = [
-        0, 0, 0, 0, 0, 0, 0, 1, 0, 0, 0, 0, 0, 0, 0, 1, 0, 0, 0, 0, 0, 0, 0, 2, 0, 1, 0, 29,
+    let bytes = [
+        0, 0, 0, 0, 0, 0, 0, 1, 0, 0, 0, 0, 0, 0, 0, 1, 0, 0, 0, 0, 0, 0, 0, 2, 0, 1, 0, 29, 1, 0,
+        0, 0, 0, 0, 0, 0, 1, 0, 0, 0, 5, 0, 1, 0xaa, 3, 0, 0, 0, 0, 0, 0, 0, 1, 0, 1, 0, 21,
     ];
-    let payload = [
-        1, 0, 0, 0, 0, 0, 0, 0, 1, 0, 0, 0, 5, 0, 1, 0xaa, 3, 0, 0, 0, 0, 0, 0, 0, 1, 0, 1, 0, 21,
-    ];
-    assert_eq!(rt; sector[..28], header[..]);
-    assert_eq!(rt; sector[28..57], payload[..]);
-    assert!(rt; sector[57..].iter().all(|b| *b == 0));
+    assert!(rt; sector.starts_with(&bytes));
+    assert!(rt; sector.iter().skip(57).all(|b| *b == 0));
     let mut store = load(alloc, &mut disk, 0, 1)?;
     assert_eq!(rt; store.end(), 3);
     assert_eq!(rt; store.log().records().len(), 3);
@@ -144,8 +151,7 @@ fn end_after(rt: &impl Abort, alloc: Global, order: Arm, count: u64) -> Result<u
     requires least { 1 ≤ count }
     requires most { count ≤ 196 }
 {
-    let mut disk = Scripted::new(alloc, MemDisk::new(alloc, Vec::new(alloc), false));
-    disk.arm(order);
+    let mut disk = fresh_disk(alloc, Vec::new(alloc), order);
     let result = two_blocks(rt, alloc, &mut disk, puts(alloc, count)?);
     assert_eq!(rt; result, Err(LogFault::DiskFault));
     disk.arm(Arm::Free);
@@ -197,10 +203,12 @@ fn fails_at_each_call(rt: HostRuntime) -> Result<(), Fail> {
 #[test]
 fn a_read_fails(rt: HostRuntime) -> Result<(), Fail> {
     let alloc = rt.alloc();
-    // Call 7 is the sync of the second load, and 8 to 12 read the sectors of two blocks and the one after them.
-    for (call, want) in [(7, 15), (8, 15), (9, 15), (11, 15), (12, 15), (13, 14)] {
-        let mut disk = MemDisk::new(alloc, Vec::from_slice(alloc, &[call])?, false);
-        assert_eq!(rt; two_blocks(&rt, alloc, &mut disk, puts(alloc, 13)?), Ok(14));
+    // Call 9 is the sync of the second load, and 10 to 14 read the sectors of two blocks and the one after them.
+    for (call, want) in [(9, 15), (10, 15), (11, 15), (13, 15), (14, 15), (15, 14)] {
+        let failing = Vec::from_slice(alloc, &[call])?;
+        let mut disk = fresh_disk(alloc, failing, Arm::Free);
+        let end = two_blocks(&rt, alloc, &mut disk, puts(alloc, 13)?);
+        assert_eq!(rt; end, Ok(14));
         let end = match load(alloc, &mut disk, 0, 1) {
             Ok(store) => store.end(),
             Err(e) => {
