@@ -132,6 +132,12 @@ read_back h n i part t a f most =
     let x4 = from_be_bytes w16 (to_be_bytes w16 (length part)) in
     ap (λ (x : ℕ). made x x2 x3 x4) p1 ∙ ap (λ (x : ℕ). made h.term x x3 x4) p2 ∙ ap (λ (x : ℕ). made h.term h.incarnation x x4) p3 ∙ ap (λ (x : ℕ). made h.term h.incarnation h.first x) p4
 
+-- of these the head and the count
+pub head_again_of : (h : Head) (n i : ℕ) (part : List ℕ) → h.term < 2 ^ 64 → h.incarnation < 2 ^ 64 → h.first < 2 ^ 64 → length part ≤ 484 → ((header_of (sector h n i part)).head ≡ h) × ((header_of (sector h n i part)).count ≡ n)
+head_again_of h n i part t a f most =
+    let back = read_back h n i part t a f most in
+    (ap (λ (x : Header). x.head) back, ap (λ (x : Header). x.count) back)
+
 cut_sector : (first : Header) (h : Head) (n i : ℕ) (part : List ℕ) → h ≡ first.head → n ≡ first.count → i < n → n ≤ 32 → h.term < 2 ^ 64 → 1 ≤ h.incarnation → h.incarnation < 2 ^ 64 → h.first < 2 ^ 64
     → 1 ≤ length part → length part ≤ 484 → (i + 1 < n → length part ≡ 484) → (fits first i (sector h n i part) ≡ true) × (part_of (sector h n i part) ≡ part)
 unfolding fits

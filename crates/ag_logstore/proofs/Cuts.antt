@@ -35,12 +35,16 @@ to_end end es = filter (λ e. nat_le e end) es
 kept_one : (e end : ℕ) (es : List ℕ) → e ≤ end → to_end end (e ∷ es) ≡ e ∷ to_end end es
 kept_one e end es h = ap (λ b. cond b (e ∷ to_end end es) (to_end end es)) (le-leb e end h)
 
-gone_all : (low high end : ℕ) (es : List ℕ) → RisesTo low high es → end ≤ low → to_end end es ≡ []
+pub gone_all : (low high end : ℕ) (es : List ℕ) → RisesTo low high es → end ≤ low → to_end end es ≡ []
 gone_all low high end [] p h = refl
 gone_all low high end (e ∷ es) p h =
     by_bool (nat_le e end) (λ b. cond b (e ∷ to_end end es) (to_end end es) ≡ [])
     (λ t. absurd (omega (arith, leb-true e end t, p.0, h)))
     (λ _. gone_all e high end es p.1 (omega (arith, p.0, h)))
+
+pub kept_all : (low high end : ℕ) (es : List ℕ) → RisesTo low high es → high ≤ end → to_end end es ≡ es
+kept_all low high end [] p h = refl
+kept_all low high end (e ∷ es) p h = kept_one e end es (omega (arith, rises_le e high es p.1, h)) ∙ ap (λ xs. e ∷ xs) (kept_all e high end es p.1 h)
 
 -- where a cut may lead from an end: to itself, or to the end of a later block
 abbrev pub IsCut : ℕ → ℕ → List ℕ → Type 0

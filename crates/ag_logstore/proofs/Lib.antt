@@ -5,3 +5,11 @@ pub mod Blocks
 pub mod Fitting
 pub mod LogMore
 pub mod Cuts
+pub mod Standing
+pub mod Chains
+pub mod Written
+pub mod Raising
+pub mod Runs
+pub mod Found
+pub mod Storing
+pub mod Fresh

@@ -2,11 +2,11 @@
 ghost use Rattle.std.specs.Prelude.{◌≡◌, ◌⊎◌, ◌+◌, ◌-◌, ◌≤◌, length, take, nat_le, Contains};
 ghost use Rattle.std.specs.List.{filter};
 ghost use Rattle.std.specs.List.Sorted.{IsNonDecreasingBy};
-ghost use Rattle.ag_model.specs.Sizes.{records_size as size_of_records, sectors_to};
+ghost use Rattle.ag_model.specs.Sizes.{sectors_to};
 ghost use Rattle.ag_logstore.specs.LogKept.{RisesTo, AreSmall};
 
 use crate::search::{ends_to, starts_to};
-use crate::sizes::{block_sectors_of, record_size};
+use crate::sizes::{block_sectors_of, small_size};
 use ag_model::config::TermStart;
 use ag_model::list::ListOf;
 use ag_model::record::{Record, RecordList};
@@ -65,16 +65,4 @@ fn sectors_before(total: u64, records: &[Record], start: u64, ends: &[u64]) -> u
         before = *end;
     }
     left
-}
-
-/// The bytes of the records of a block.
-fn small_size(records: &[Record]) -> u64
-    requires { size_of_records records.now ≤ 15488 }
-    ensures { result ≡ size_of_records records.now }
-{
-    let mut bytes = 0;
-    for record in records {
-        bytes += record_size(record);
-    }
-    bytes
 }

@@ -5,6 +5,7 @@ ghost use Rattle.ag_model.specs.Blocks.{with_block, cut_at, end_of_block, next_e
 ghost use Rattle.ag_model.specs.Starts.{last_term};
 ghost use Rattle.ag_model.specs.Sizes.{records_size as size_of_records, free_sectors as sectors_left};
 ghost use Rattle.ag_record.specs.Spelling.{HaveSpelling, ArePayload};
+ghost use Rattle.ag_logstore.specs.LogKept.{RisesTo};
 
 use crate::cutting::{cut_blocks, cut_records, cut_starts};
 use crate::growth::grow;
@@ -68,6 +69,11 @@ impl HardenedLog {
             starts: Vec::from_slice(alloc, &[TermStart { term: 1, lsn: 1 }])?,
             sectors: 1,
         })
+    }
+
+    /// The allocator that it was made with.
+    pub(crate) fn alloc(&self) -> Global {
+        *self.ends.allocator()
     }
 
     /// The last LSN.
@@ -136,12 +142,13 @@ impl HardenedLog {
         ensures moved { OnOk result (block.new ≡ []) }
         ensures err { OnErr result (self.new ≡ self.old) }
         ensures kept { OnErr result (block.new ≡ block.old) }
+
+        // Its blocks ended one after the other, the last one with it.
+        ensures rose { RisesTo 0 (length self.old.records) self.old.ends }
     {
+        let before = self.sectors;
         let bytes = records_size(block.as_slice())?;
-        let sectors = self
-            .sectors
-            .checked_add(block_sectors_of(bytes))
-            .ok_or(NoMemory)?;
+        let sectors = before.checked_add(block_sectors_of(bytes)).ok_or(NoMemory)?;
         grow(&mut self.records, &mut self.ends, &mut self.starts, block)?;
         self.sectors = sectors;
         Ok(())
@@ -152,7 +159,7 @@ impl HardenedLog {
         requires { (end ≡ 0) ⊎ Contains self.old.ends end }
         ensures { self.new ≡ cut_at end self.old }
     {
-        let alloc = *self.ends.allocator();
+        let alloc = self.alloc();
         self.sectors = cut_blocks(self.records.as_slice(), &mut self.ends, self.sectors, end);
         cut_starts(&mut self.starts, end);
         cut_records(alloc, &mut self.records, end as usize);

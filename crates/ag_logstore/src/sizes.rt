@@ -1,5 +1,5 @@
 //! What records take, and copies of them.
-ghost use Rattle.std.specs.Prelude.{◌≡◌, ◌+◌, ◌*◌, ◌/◌, length, IfOk};
+ghost use Rattle.std.specs.Prelude.{◌≤◌, ◌≡◌, ◌+◌, ◌*◌, ◌/◌, length, IfOk};
 ghost use Rattle.ag_model.specs.Sizes.{record_size as size_of_record, records_size as size_of_records};
 
 use ag_model::record::{PageList, Record, RecordList};
@@ -17,8 +17,20 @@ pub fn records_size(records: &[Record]) -> Result<u64, NoMemory>
     Ok(bytes)
 }
 
+/// The bytes of the records of a block.
+pub(crate) fn small_size(records: &[Record]) -> u64
+    requires { size_of_records records.now ≤ 15488 }
+    ensures { result ≡ size_of_records records.now }
+{
+    let mut bytes = 0;
+    for record in records {
+        bytes += record_size(record);
+    }
+    bytes
+}
+
 /// The bytes of a record.
-pub(crate) fn record_size(entry: &Record) -> u64
+fn record_size(entry: &Record) -> u64
     ensures { result ≡ size_of_record entry.now }
 {
     match entry {
