@@ -1,0 +1,111 @@
+-- Calls of a disk, one after the other.
+use Rattle.std.proofs.Common.{◌≡◌, ◌⊎◌, ℕ, List, [], ◌∷◌, ◌++◌, Result, Ok, Err, map, refl, sym, ap, ◌∙◌, inl, inr, subst, append_assoc}
+use Rattle.ag_outside.specs.declared.disk.Found.{Found}
+use Rattle.ag_outside.specs.declared.disk.DiskError.{DiskError}
+use Rattle.ag_outside.specs.declared.disk.DiskError.TheVariants.{Failed}
+use Rattle.ag_outside.specs.Calls.{Call, Write_call, Read_call, Sync_call, Leads, changing, Piece, all_went, BreaksOff, FailsAtRead, TakesAll, FailsOnTheWay, IsReadOnly}
+use Rattle.ag_pagestore.specs.Batches.{went, WritesUntilFault}
+use Rattle.ag_pagestore.specs.Found.{ReadsUntilFault}
+
+module _ {D : Type 0} (did : D → Call → D → Type 0) where
+  -- first these, then those
+  pub leads_both : (xs ys : List Call) (old mid new : D) → Leads did old xs mid → Leads did mid ys new → Leads did old (xs ++ ys) new
+  leads_both [] ys old mid new first then = subst (λ (d : D). Leads did d ys new) first then
+  leads_both (x ∷ xs) ys old mid new (next, here, first) then = (next, here, leads_both xs ys next mid new first then)
+
+  -- one call more
+  pub leads_on : (xs : List Call) (call : Call) (old mid new : D) → Leads did old xs mid → did mid call new → Leads did old (xs ++ call ∷ []) new
+  leads_on xs call old mid new first here = leads_both xs (call ∷ []) old mid new first (new, here, refl)
+
+pub changing-append : (xs ys : List Call) → changing (xs ++ ys) ≡ changing xs ++ changing ys
+changing-append [] ys = refl
+changing-append (Write_call first sectors result ∷ xs) ys = ap (λ (z : List Call). Write_call first sectors result ∷ z) (changing-append xs ys)
+changing-append (Read_call at result ∷ xs) ys = changing-append xs ys
+changing-append (Sync_call result ∷ xs) ys = ap (λ (z : List Call). Sync_call result ∷ z) (changing-append xs ys)
+
+-- what comes after reads alone
+after_reads : (xs ys : List Call) → changing xs ≡ [] → changing (xs ++ ys) ≡ changing ys
+after_reads xs ys none = changing-append xs ys ∙ ap (λ (z : List Call). z ++ changing ys) none
+
+all_took : (pieces : List Piece) → changing (went pieces ++ Sync_call (Ok (record {})) ∷ []) ≡ all_went pieces
+all_took [] = refl
+all_took (p ∷ ps) = ap (λ (z : List Call). Write_call p.first p.sectors (Ok (record {})) ∷ z) (all_took ps)
+
+sync_broke : (pieces : List Piece) → BreaksOff pieces (changing (went pieces ++ Sync_call (Err Failed) ∷ []))
+sync_broke [] = refl
+sync_broke (p ∷ ps) = inr (changing (went ps ++ Sync_call (Err Failed) ∷ []), refl, sync_broke ps)
+
+write_broke : (before : List Piece) (at : Piece) (after : List Piece) → BreaksOff (before ++ at ∷ after) (changing (went before ++ Write_call at.first at.sectors (Err Failed) ∷ []))
+write_broke [] at after = inl refl
+write_broke (p ∷ ps) at after = inr (changing (went ps ++ Write_call at.first at.sectors (Err Failed) ∷ []), refl, write_broke ps at after)
+
+module _ {D : Type 0} (did : D → Call → D → Type 0) (old mid : D) (read : IsReadOnly did old mid) where
+  -- reads, then each piece and a sync
+  pub takes_all : (later new : D) (pieces : List Piece) → Leads did mid (went pieces) later → did later (Sync_call (Ok (record {}))) new → TakesAll did old pieces new
+  takes_all later new pieces writes sync =
+      let all = went pieces ++ Sync_call (Ok (record {})) ∷ [] in
+      record {
+        calls = read.calls ++ all;
+        leads = leads_both did read.calls all old mid new read.leads (leads_on did (went pieces) (Sync_call (Ok (record {}))) mid later new writes sync);
+        all = after_reads read.calls all read.reads ∙ all_took pieces;
+      }
+
+  -- reads, then each piece and a sync that failed
+  pub fails_at_sync : (later new : D) (pieces : List Piece) → Leads did mid (went pieces) later → did later (Sync_call (Err Failed)) new → FailsOnTheWay did old pieces new
+  fails_at_sync later new pieces writes sync =
+      let all = went pieces ++ Sync_call (Err Failed) ∷ [] in
+      record {
+        calls = read.calls ++ all;
+        leads = leads_both did read.calls all old mid new read.leads (leads_on did (went pieces) (Sync_call (Err Failed)) mid later new writes sync);
+        last = inl (subst (BreaksOff pieces) (sym (after_reads read.calls all read.reads)) (sync_broke pieces));
+      }
+
+  -- reads, then some pieces and one that failed
+  pub fails_at_write : (new : D) (pieces : List Piece) → WritesUntilFault did mid pieces new → FailsOnTheWay did old pieces new
+  fails_at_write new pieces w =
+      let all = went w.before ++ Write_call w.at.first w.at.sectors (Err Failed) ∷ [] in
+      record {
+        calls = read.calls ++ all;
+        leads = leads_both did read.calls all old mid new read.leads w.leads;
+        last = inl (subst (λ (ps : List Piece). BreaksOff ps (changing (read.calls ++ all))) (sym w.all) (subst (BreaksOff (w.before ++ w.at ∷ w.after)) (sym (after_reads read.calls all read.reads)) (write_broke w.before w.at w.after)));
+      }
+
+  -- reads, then one more
+  pub reads_on : (at : ℕ) (found : Found) (new : D) → did mid (Read_call at (Ok found)) new → IsReadOnly did old new
+  reads_on at found new here = record {
+    calls = read.calls ++ Read_call at (Ok found) ∷ [];
+    leads = leads_on did read.calls (Read_call at (Ok found)) old mid new read.leads here;
+    reads = after_reads read.calls (Read_call at (Ok found) ∷ []) read.reads;
+  }
+
+  -- reads, then one that failed
+  pub read_fails : (at : ℕ) (new : D) → did mid (Read_call at (Err Failed)) new → ReadsUntilFault did old new
+  read_fails at new here = record {
+    calls = read.calls ++ Read_call at (Err Failed) ∷ [];
+    leads = leads_on did read.calls (Read_call at (Err Failed)) old mid new read.leads here;
+    last = (read.calls, at, refl);
+  }
+
+  -- reads, and then reads
+  pub reads_both : (new : D) → IsReadOnly did mid new → IsReadOnly did old new
+  reads_both new more = record {
+    calls = read.calls ++ more.calls;
+    leads = leads_both did read.calls more.calls old mid new read.leads more.leads;
+    reads = after_reads read.calls more.calls read.reads ∙ more.reads;
+  }
+
+  -- reads, and then reads until one failed
+  pub reads_fail : (new : D) → ReadsUntilFault did mid new → ReadsUntilFault did old new
+  reads_fail new more = record {
+    calls = read.calls ++ more.calls;
+    leads = leads_both did read.calls more.calls old mid new read.leads more.leads;
+    last = (read.calls ++ more.last.0, more.last.1, ap (λ (z : List Call). read.calls ++ z) more.last.2 ∙ sym (append_assoc read.calls more.last.0 (Read_call more.last.1 (Err Failed) ∷ [])));
+  }
+
+-- no call
+pub reads_none : {D : Type 0} (did : D → Call → D → Type 0) (old : D) → IsReadOnly did old old
+reads_none did old = record { calls = []; leads = refl; reads = refl }
+
+-- a failed read is a fault on the way to any pieces
+pub fails_at_read : {D : Type 0} (did : D → Call → D → Type 0) (old new : D) (pieces : List Piece) → ReadsUntilFault did old new → FailsOnTheWay did old pieces new
+fails_at_read did old new pieces r = record { calls = r.calls; leads = r.leads; last = inr r.last }

@@ -1,0 +1,64 @@
+-- Sectors that are read one by one.
+use Rattle.std.proofs.Common.{◌≡◌, ◌⊎◌, ◌+◌, ◌<◌, ◌≤◌, ℕ, suc, zero, List, [], ◌∷◌, length, get_or, set, map, Option, Some, None, Bool, true, false, IsTrue, refl, sym, ap, ◌∙◌, arith, inl, inr, subst}
+use Rattle.std.specs.List.{range_with_len, list_any}
+use Rattle.std.proofs.lemmas.List.{ext_get_or, get_or-map, length-map, length-set, get_or-replicate}
+use Rattle.std.proofs.lemmas.List.FromFn.{get_or-map-range_with_len, length-map-range_with_len}
+use Rattle.ag_model.specs.declared.answer.Cell.{Cell}
+use Rattle.ag_model.specs.declared.answer.Cell.TheVariants.{Mark, Lost}
+use Rattle.ag_model.specs.Cells.{is_lost, has_lost}
+use Rattle.ag_outside.specs.Disks.{Content, Image, SameImages, Elapses, IsImage}
+use Rattle.ag_page.specs.Home.{cell_of, cells_of, readable}
+use Rattle.ag_pagestore.specs.Places.{place, image_of}
+use Rattle.ag_pagestore.specs.Found.{IsSector, IsFound}
+
+image-long : (disk : Image) (page : ℕ) → length (image_of disk page) ≡ 16
+unfolding image_of
+image-long disk page = length-map-range_with_len disk (place page) 16
+
+-- all 16
+module _ (disk : Image) (page : ℕ) (cells : List Cell) (image : List (List ℕ)) (cells_whole : length cells ≡ 16) (image_whole : length image ≡ 16) (each : (k : ℕ) → k < 16 → IsSector (disk (place page + k)) (get_or cells k Lost) (get_or image k [])) where
+  at_place : (k : ℕ) → k < 16 → get_or (image_of disk page) k None ≡ disk (place page + k)
+  unfolding image_of
+  at_place k lt = get_or-map-range_with_len disk (place page) 16 k (place page + k) None lt refl
+
+  told_at : (k : ℕ) → k < 16 → get_or (cells_of (image_of disk page)) k Lost ≡ get_or cells k Lost
+  told_at k lt = get_or-map cell_of (image_of disk page) k None Lost (omega (arith, image-long disk page)) ∙ ap cell_of (at_place k lt) ∙ (each k lt).told
+
+  lost_at : (cs : List Cell) (k : ℕ) → k < length cs → get_or cs k Lost ≡ Lost → has_lost cs ≡ true
+  lost_at [] k lt is = absurd (omega arith)
+  lost_at (c ∷ cs) zero lt is = ap (λ (z : Cell). has_lost (z ∷ cs)) is
+  lost_at (Mark m ∷ cs) (suc k) lt is = lost_at cs k (omega arith) is
+  lost_at (Lost ∷ cs) (suc k) lt is = refl
+
+  bytes_at : has_lost cells ≡ false → (k : ℕ) → k < 16 → get_or (image_of disk page) k None ≡ get_or (readable image) k None
+  bytes_at none k lt = elim (each k lt).either [
+    | inr is ↦ at_place k lt ∙ is ∙ sym (get_or-map (λ s. Some s) image k [] None (omega (arith, image_whole)))
+    | inl is ↦ absurd (cc (sym (lost_at cells k (omega (arith, cells_whole)) (sym (each k lt).told ∙ ap cell_of is)) ∙ none))
+  ]
+
+  pub all_found : IsFound (image_of disk page) cells image
+  all_found = record {
+    same = ext_get_or Lost (cells_of (image_of disk page)) cells (length-map (image_of disk page) cell_of ∙ image-long disk page ∙ sym cells_whole) (λ k lt. told_at k (omega (arith, length-map (image_of disk page) cell_of, image-long disk page)));
+    bytes = λ none. ext_get_or None (image_of disk page) (readable image) (image-long disk page ∙ sym image_whole ∙ sym (length-map image (λ s. Some s))) (λ k lt. bytes_at none k (omega (arith, image-long disk page)));
+  }
+
+-- nothing changes over two runs of reads
+pub same_images : (a b c : ℕ → Content → Type 0) → SameImages a b → SameImages b c → SameImages a c
+same_images a b c p q at content = (λ h. (p at content).0 ((q at content).0 h), λ h. (q at content).1 ((p at content).1 h))
+
+pub same_itself : (a : ℕ → Content → Type 0) → SameImages a a
+same_itself a at content = (λ h. h, λ h. h)
+
+-- time that goes on twice, the second time with the same images
+pub elapses_on : (traced still : Bool) (before mid now : ℕ) (past then since : ℕ → Image → Type 0) (hold next : ℕ → Content → Type 0) → still ≡ traced → Elapses traced before mid past then hold → Elapses still mid now then since next → SameImages hold next → Elapses traced before now past since next
+elapses_on traced still before mid now past then since hold next is a b same = record {
+  later = omega (arith, a.later, b.later);
+  nothing_else = λ t image le left. elim (b.nothing_else t image (omega (arith, a.later, le)) left) [
+    | inl so ↦ elim (a.nothing_else t image le so) [ inl was ↦ inl was | inr now ↦ inr (λ at. (same at (image at)).1 (now at)) ]
+    | inr now ↦ inr now
+  ];
+  kept = λ yes t image le was. b.kept (subst IsTrue (sym is) yes) t image (omega (arith, a.later, le)) (a.kept yes t image le was);
+}
+
+pub elapses_none : (traced : Bool) (now : ℕ) (past : ℕ → Image → Type 0) (hold : ℕ → Content → Type 0) → Elapses traced now now past past hold
+elapses_none traced now past hold = record { later = omega arith; nothing_else = λ t image le left. inl left; kept = λ yes t image le was. was }

@@ -1,0 +1,5 @@
+pub mod Faults
+pub mod Places
+pub mod Found
+pub mod Batches
+pub mod Moments

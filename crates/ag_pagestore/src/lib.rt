@@ -1,0 +1,12 @@
+//! The images of pages on a disk: read with what is wrong with them, and written in batches with the next mark.
+#![tactic(auto)]
+
+mod batch;
+mod fault;
+mod marks;
+mod reading;
+mod sectors;
+
+pub use batch::{PageWrite, write_batch};
+pub use fault::{PageReadFault, PageWriteFault};
+pub use reading::read;
