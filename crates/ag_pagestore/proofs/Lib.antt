@@ -1,3 +1,6 @@
+pub mod Faults
 pub mod Leading
+pub mod Moving
+pub mod Rising
 pub mod Sixteen
 pub mod Unused

@@ -1,7 +1,8 @@
 -- Sectors that are read one by one.
 use Rattle.std.proofs.Common.{◌≡◌, ◌⊎◌, ◌+◌, ◌<◌, ◌≤◌, ℕ, suc, zero, List, [], ◌∷◌, length, get_or, set, map, Option, Some, None, Bool, true, false, IsTrue, refl, sym, ap, ◌∙◌, arith, inl, inr, subst}
 use Rattle.std.specs.List.{range_with_len, list_any}
-use Rattle.std.proofs.lemmas.List.{ext_get_or, get_or-map, length-map, length-set, get_or-replicate}
+use Rattle.std.proofs.lemmas.List.{ext_get_or, get_or-map, length-map, get_or-set_same, get_or-set_other}
+use Rattle.std.proofs.lemmas.Bool.{cases_eq}
 use Rattle.std.proofs.lemmas.List.FromFn.{get_or-map-range_with_len, length-map-range_with_len}
 use Rattle.ag_model.specs.declared.answer.Cell.{Cell}
 use Rattle.ag_model.specs.declared.answer.Cell.TheVariants.{Mark, Lost}
@@ -41,6 +42,16 @@ module _ (disk : Image) (page : ℕ) (cells : List Cell) (image : List (List ℕ
     same = ext_get_or Lost (cells_of (image_of disk page)) cells (length-map (image_of disk page) cell_of ∙ image-long disk page ∙ sym cells_whole) (λ k lt. told_at k (omega (arith, length-map (image_of disk page) cell_of, image-long disk page)));
     bytes = λ none. ext_get_or None (image_of disk page) (readable image) (image-long disk page ∙ sym image_whole ∙ sym (length-map image (λ s. Some s))) (λ k lt. bytes_at none k (omega (arith, image-long disk page)));
   }
+
+-- one sector more
+pub sector_more : (disk : Image) (first i : ℕ) (cells : List Cell) (cell : Cell) (image : List (List ℕ)) (bytes : List ℕ) → i < length cells → i < length image → ((k : ℕ) → k < i → IsSector (disk (first + k)) (get_or cells k Lost) (get_or image k [])) → IsSector (disk (first + i)) cell bytes
+    → (k : ℕ) → k < i + 1 → IsSector (disk (first + k)) (get_or (set cells i cell) k Lost) (get_or (set image i bytes) k [])
+sector_more disk first i cells cell image bytes lt within before here k below = elim (cases_eq k i) [
+  | inl is ↦ subst (λ (c : Cell). IsSector (disk (first + k)) c (get_or (set image i bytes) k [])) (sym (ap (λ (j : ℕ). get_or (set cells i cell) j Lost) is ∙ get_or-set_same cells i cell Lost lt))
+    (subst (λ (b : List ℕ). IsSector (disk (first + k)) cell b) (sym (ap (λ (j : ℕ). get_or (set image i bytes) j []) is ∙ get_or-set_same image i bytes [] within)) (subst (λ (j : ℕ). IsSector (disk (first + j)) cell bytes) (sym is) here))
+  | inr apart ↦ subst (λ (c : Cell). IsSector (disk (first + k)) c (get_or (set image i bytes) k [])) (sym (get_or-set_other cells i k cell Lost apart))
+    (subst (λ (b : List ℕ). IsSector (disk (first + k)) (get_or cells k Lost) b) (sym (get_or-set_other image i k bytes [] apart)) (before k (omega arith)))
+]
 
 -- nothing changes over two runs of reads
 pub same_images : (a b c : ℕ → Content → Type 0) → SameImages a b → SameImages b c → SameImages a c

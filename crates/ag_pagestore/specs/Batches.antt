@@ -48,7 +48,7 @@ pub record IsWritten (old : Image) (batch : List PageWrite) (new : Image) : Type
 
 -- these are the marks of the next writes over the pages, in order
 abbrev pub AreNext : Image → List PageWrite → List ℕ → Type 0
-AreNext disk batch marks = (k : ℕ) (w : PageWrite) → k < length batch → get_or batch k w ≡ w → get_or marks k 0 ≡ mark_after (page_cells disk w.page)
+AreNext disk batch marks = (k : ℕ) (d : PageWrite) → k < length batch → get_or marks k 0 ≡ mark_after (page_cells disk (get_or batch k d).page)
 
 -- each piece written
 abbrev pub went : List Piece → List Call

@@ -1,0 +1,39 @@
+-- What a crash leaves at the moments of a batch.
+use Rattle.std.proofs.Common.{◌≡◌, ◌⊎◌, ◌≤◌, ℕ, List, [], ◌∷◌, Bool, IsTrue, ⊎_elim, subst, sym, ap, arith, inl, inr}
+use Rattle.ag_outside.specs.Disks.{Content, Image, IsImage, SameImages, MayAdd, WroteSo, Elapses}
+use Rattle.ag_outside.specs.Moments.{LeavesOnly}
+use Rattle.ag_outside.proofs.Running.{started, goes_on}
+use Rattle.ag_pagestore.specs.declared.batch.PageWrite.{PageWrite}
+use Rattle.ag_pagestore.specs.Batches.{written}
+use Rattle.ag_pagestore.specs.Moments.{IsPartOf}
+
+module _ {D : Type 0} (moment : D → ℕ) (left_since : D → ℕ → Image → Type 0) where
+  -- what holds of less holds of more
+  pub leaves_weaker : (old new : D) (P Q : Image → Type 0) → ((image : Image) → P image → Q image) → LeavesOnly moment left_since old new P → LeavesOnly moment left_since old new Q
+  leaves_weaker old new P Q weaker l = record {
+    later = l.later;
+    each = λ image left. weaker image (l.each image left);
+    before = λ t image le left. elim (l.before t image le left) [ inl was ↦ inl was | inr p ↦ inr (weaker image p) ];
+  }
+
+  -- two runs one after the other
+  pub leaves_both : (old mid new : D) (P : Image → Type 0) → LeavesOnly moment left_since old mid P → LeavesOnly moment left_since mid new P → LeavesOnly moment left_since old new P
+  leaves_both old mid new P a b = record {
+    later = omega (arith, a.later, b.later);
+    each = λ image left. ⊎_elim (a.each image) (λ p. p) (b.before (moment old) image a.later left);
+    before = λ t image le left. ⊎_elim (a.before t image le) (λ p. inr p) (b.before t image (omega (arith, le, a.later)) left);
+  }
+
+  -- what is left without a call of writing
+  pub leaves_reads : (old new : D) (traced : Bool) (hold next : ℕ → Content → Type 0) (disk : Image) (batch : List PageWrite) → ((image : Image) → left_since old (moment old) image → IsImage hold image) → Elapses traced (moment old) (moment new) (left_since old) (left_since new) next → SameImages hold next
+      → LeavesOnly moment left_since old new (IsPartOf hold disk batch)
+  leaves_reads old new traced hold next disk batch now time same =
+      let P = IsPartOf hold disk batch in
+      goes_on moment left_since old old new P traced next (started moment left_since old P (λ image left at. inl (now image left at))) time (λ image is at. inl ((same at (image at)).0 (is at)))
+
+-- a part of a batch over what was the same before
+pub part_over : (hold next : ℕ → Content → Type 0) (disk then : Image) (batch : List PageWrite) → SameImages hold next → then ≡ disk → (image : Image) → IsPartOf next then batch image → IsPartOf hold disk batch image
+part_over hold next disk then batch same is image p at = elim (p at) [
+  | inl was ↦ inl ((same at (image at)).0 was)
+  | inr wrote ↦ inr (subst (λ (im : Image). WroteSo (written im batch) at (image at)) is wrote)
+]
