@@ -37,3 +37,7 @@ part_over hold next disk then batch same is image p at = elim (p at) [
   | inl was ↦ inl ((same at (image at)).0 was)
   | inr wrote ↦ inr (subst (λ (im : Image). WroteSo (written im batch) at (image at)) is wrote)
 ]
+
+-- after a sync, or one that failed
+pub part_synced : (hold later new : ℕ → Content → Type 0) (disk : Image) (batch : List PageWrite) → MayAdd (written disk batch) hold later → MayAdd [] later new → (image : Image) → IsImage new image → IsPartOf hold disk batch image
+part_synced hold later new disk batch wrote synced image now at = elim (synced at (image at) (now at)) [ inl before ↦ wrote at (image at) before | inr none ↦ absurd none ]

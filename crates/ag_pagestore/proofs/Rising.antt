@@ -6,7 +6,7 @@ use Rattle.std.proofs.lemmas.List.Concat.{flat_map-append}
 use Rattle.std.proofs.lemmas.Bool.{cases_eq}
 use Rattle.ag_model.specs.Cells.{mark_after}
 use Rattle.ag_outside.specs.declared.disk.SectorWrite.{SectorWrite}
-use Rattle.ag_outside.specs.Disks.{Content, Image, writes, put_all, WroteSo, MayAdd}
+use Rattle.ag_outside.specs.Disks.{Content, Image, writes, put_all, WroteSo, MayAdd, IsImage}
 use Rattle.ag_outside.specs.declared.disk.DiskError.{DiskError}
 use Rattle.ag_outside.specs.declared.disk.DiskError.TheVariants.{Failed}
 use Rattle.ag_outside.specs.Calls.{Call, Write_call, Piece, Leads}
@@ -14,6 +14,7 @@ use Rattle.ag_outside.proofs.Puts.{put_all-append, wrote-left, wrote-right}
 use Rattle.ag_pagestore.specs.declared.batch.PageWrite.{PageWrite}
 use Rattle.ag_pagestore.specs.Places.{place, page_cells}
 use Rattle.ag_pagestore.specs.Batches.{RisesFrom, marked, piece, pieces, written, went, WritesUntilFault}
+use Rattle.ag_pagestore.specs.Moments.{IsPartOf}
 use Rattle.ag_pagestore.proofs.Leading.{leads_on}
 
 -- each page has a place
@@ -83,6 +84,9 @@ module _ (disk : Image) (batch : List PageWrite) (i : ℕ) (d : PageWrite) (lt :
     pub crash_more : (a b c : ℕ → Content → Type 0) → MayAdd (written disk (take i batch)) a b → MayAdd (writes first image) b c → MayAdd (written disk (take (i + 1) batch)) a c
     crash_more a b c before wrote =
         subst (λ (ws : List SectorWrite). MayAdd ws a c) (ap (λ (z : List SectorWrite). written disk (take i batch) ++ z) writes_is ∙ sym written_more) (adds_both (written disk (take i batch)) (writes first image) a b c before wrote)
+
+    pub part_more : (a b c : ℕ → Content → Type 0) → MayAdd (written disk (take i batch)) a b → MayAdd (writes first image) b c → (left : Image) → IsImage c left → IsPartOf a disk batch left
+    part_more a b c before wrote left now at = elim (crash_more a b c before wrote at (left at) (now at)) [ inl old ↦ inl old | inr some ↦ inr (among at (left at) some) ]
 
     call_is : (r : Result (Unit {0}) DiskError) → Write_call first image r ≡ Write_call (place here.page) (marked disk here) r
     call_is r = ap (λ (p : ℕ). Write_call p image r) place_is ∙ ap (λ (im : List (List ℕ)). Write_call (place here.page) im r) image_is
