@@ -1,4 +1,5 @@
 pub mod Faults
+pub mod Fresh
 pub mod Leading
 pub mod Moving
 pub mod Rising

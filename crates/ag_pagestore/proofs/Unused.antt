@@ -13,7 +13,7 @@ pub all_unused : (cells : List Cell) → first_or_zero (unused cells 1 17) ≡ f
 unfolding unused
 all_unused cells = refl
 
-unused-step : (cells : List Cell) (from n : ℕ) (b : Bool) → list_any (same_mark (Mark from)) cells ≡ b → unused cells from (suc n) ≡ cond b (unused cells (from + 1) n) (from ∷ unused cells (from + 1) n)
+pub unused-step : (cells : List Cell) (from n : ℕ) (b : Bool) → list_any (same_mark (Mark from)) cells ≡ b → unused cells from (suc n) ≡ cond b (unused cells (from + 1) n) (from ∷ unused cells (from + 1) n)
 unfolding unused
 unused-step cells from n true is = ap (λ (b : Bool). cond (not b) (from ∷ unused cells (from + 1) n) (unused cells (from + 1) n)) is
 unused-step cells from n false is = ap (λ (b : Bool). cond (not b) (from ∷ unused cells (from + 1) n) (unused cells (from + 1) n)) is
