@@ -1,7 +1,9 @@
 pub mod Faults
 pub mod Fresh
 pub mod Leading
+pub mod Mixed
 pub mod Moving
 pub mod Rising
+pub mod Runs
 pub mod Sixteen
 pub mod Unused
