@@ -1,8 +1,10 @@
 pub mod Faults
 pub mod Fresh
 pub mod Leading
+pub mod Lists
 pub mod Mixed
 pub mod Moving
+pub mod Pages
 pub mod Rising
 pub mod Runs
 pub mod Sixteen

@@ -1,6 +1,6 @@
 -- Pages that rise, and what is written of the first of them.
 use Rattle.std.proofs.Common.{◌≡◌, ◌⊎◌, ◌+◌, ◌*◌, ◌<◌, ◌≤◌, ℕ, suc, zero, List, [], ◌∷◌, ◌++◌, length, get_or, set, map, take, drop, Result, Ok, Err, append_assoc, refl, sym, ap, ◌∙◌, arith, inl, inr, subst}
-use Rattle.std.specs.List.{flat_map}
+use Rattle.std.specs.List.{flat_map, AllByRecursion}
 use Rattle.std.proofs.lemmas.List.{take_more, take_all, append-nil, take-append-drop, map-append, get_or-set_same, get_or-set_other}
 use Rattle.std.proofs.lemmas.List.Concat.{flat_map-append}
 use Rattle.std.proofs.lemmas.Bool.{cases_eq}
@@ -13,7 +13,7 @@ use Rattle.ag_outside.specs.Calls.{Call, Write_call, Piece, Leads}
 use Rattle.ag_outside.proofs.Puts.{put_all-append, wrote-left, wrote-right}
 use Rattle.ag_pagestore.specs.declared.batch.PageWrite.{PageWrite}
 use Rattle.ag_pagestore.specs.Places.{place, page_cells}
-use Rattle.ag_pagestore.specs.Batches.{RisesFrom, marked, piece, pieces, written, went, WritesUntilFault}
+use Rattle.ag_pagestore.specs.Batches.{RisesFrom, IsWhole, marked, piece, pieces, written, went, WritesUntilFault}
 use Rattle.ag_pagestore.specs.Moments.{IsPartOf}
 use Rattle.ag_pagestore.proofs.Leading.{leads_on}
 
@@ -67,11 +67,6 @@ module _ (disk : Image) (batch : List PageWrite) (i : ℕ) (d : PageWrite) (lt :
       ap (pieces disk) (sym rest_of) ∙ map-append (piece disk) (take (i + 1) batch) (drop (i + 1) batch) ∙ ap (λ (z : List Piece). z ++ pieces disk (drop (i + 1) batch)) pieces_more
       ∙ append_assoc (pieces disk (take i batch)) (piece disk here ∷ []) (pieces disk (drop (i + 1) batch))
 
-  pub among : (at : ℕ) (content : Content) → WroteSo (written disk (take (i + 1) batch)) at content → WroteSo (written disk batch) at content
-  among at content wrote =
-      subst (λ (ws : List SectorWrite). WroteSo ws at content) (sym (flat_map-append (λ (w : PageWrite). writes (place w.page) (marked disk w)) (take (i + 1) batch) (drop (i + 1) batch)) ∙ ap (written disk) rest_of)
-        (wrote-left (written disk (take (i + 1) batch)) (written disk (drop (i + 1) batch)) at content wrote)
-
   module _ (first : ℕ) (image : List (List ℕ)) (place_is : first ≡ place here.page) (image_is : image ≡ marked disk here) where
     writes_is : writes first image ≡ writes (place here.page) (marked disk here)
     writes_is = ap (λ (p : ℕ). writes p image) place_is ∙ ap (writes (place here.page)) image_is
@@ -85,8 +80,8 @@ module _ (disk : Image) (batch : List PageWrite) (i : ℕ) (d : PageWrite) (lt :
     crash_more a b c before wrote =
         subst (λ (ws : List SectorWrite). MayAdd ws a c) (ap (λ (z : List SectorWrite). written disk (take i batch) ++ z) writes_is ∙ sym written_more) (adds_both (written disk (take i batch)) (writes first image) a b c before wrote)
 
-    pub part_more : (a b c : ℕ → Content → Type 0) → MayAdd (written disk (take i batch)) a b → MayAdd (writes first image) b c → (left : Image) → IsImage c left → IsPartOf a disk batch left
-    part_more a b c before wrote left now at = elim (crash_more a b c before wrote at (left at) (now at)) [ inl old ↦ inl old | inr some ↦ inr (among at (left at) some) ]
+    pub part_more : (a b c : ℕ → Content → Type 0) → MayAdd (written disk (take i batch)) a b → MayAdd (writes first image) b c → AllByRecursion IsWhole (take (i + 1) batch) → (left : Image) → IsImage c left → IsPartOf a disk batch left
+    part_more a b c before wrote whole left now = record { begun = i + 1; whole = whole; each = λ at. crash_more a b c before wrote at (left at) (now at) }
 
     call_is : (r : Result (Unit {0}) DiskError) → Write_call first image r ≡ Write_call (place here.page) (marked disk here) r
     call_is r = ap (λ (p : ℕ). Write_call p image r) place_is ∙ ap (λ (im : List (List ℕ)). Write_call (place here.page) im r) image_is

@@ -12,18 +12,18 @@ use Rattle.ag_page.specs.Home.{cell_of, cells_of, readable}
 use Rattle.ag_pagestore.specs.Places.{place, image_of}
 use Rattle.ag_pagestore.specs.Found.{IsSector, IsFound}
 
-image-long : (disk : Image) (page : ℕ) → length (image_of disk page) ≡ 16
+pub image-long : (disk : Image) (page : ℕ) → length (image_of disk page) ≡ 16
 unfolding image_of
 image-long disk page = length-map-range_with_len disk (place page) 16
 
+pub at_place : (disk : Image) (page k : ℕ) → k < 16 → get_or (image_of disk page) k None ≡ disk (place page + k)
+unfolding image_of
+at_place disk page k lt = get_or-map-range_with_len disk (place page) 16 k (place page + k) None lt refl
+
 -- all 16
 module _ (disk : Image) (page : ℕ) (cells : List Cell) (image : List (List ℕ)) (cells_whole : length cells ≡ 16) (image_whole : length image ≡ 16) (each : (k : ℕ) → k < 16 → IsSector (disk (place page + k)) (get_or cells k Lost) (get_or image k [])) where
-  at_place : (k : ℕ) → k < 16 → get_or (image_of disk page) k None ≡ disk (place page + k)
-  unfolding image_of
-  at_place k lt = get_or-map-range_with_len disk (place page) 16 k (place page + k) None lt refl
-
   told_at : (k : ℕ) → k < 16 → get_or (cells_of (image_of disk page)) k Lost ≡ get_or cells k Lost
-  told_at k lt = get_or-map cell_of (image_of disk page) k None Lost (omega (arith, image-long disk page)) ∙ ap cell_of (at_place k lt) ∙ (each k lt).told
+  told_at k lt = get_or-map cell_of (image_of disk page) k None Lost (omega (arith, image-long disk page)) ∙ ap cell_of (at_place disk page k lt) ∙ (each k lt).told
 
   lost_at : (cs : List Cell) (k : ℕ) → k < length cs → get_or cs k Lost ≡ Lost → has_lost cs ≡ true
   lost_at [] k lt is = absurd (omega arith)
@@ -33,7 +33,7 @@ module _ (disk : Image) (page : ℕ) (cells : List Cell) (image : List (List ℕ
 
   bytes_at : has_lost cells ≡ false → (k : ℕ) → k < 16 → get_or (image_of disk page) k None ≡ get_or (readable image) k None
   bytes_at none k lt = elim (each k lt).either [
-    | inr is ↦ at_place k lt ∙ is ∙ sym (get_or-map (λ s. Some s) image k [] None (omega (arith, image_whole)))
+    | inr is ↦ at_place disk page k lt ∙ is ∙ sym (get_or-map (λ s. Some s) image k [] None (omega (arith, image_whole)))
     | inl is ↦ absurd (cc (sym (lost_at cells k (omega (arith, cells_whole)) (sym (each k lt).told ∙ ap cell_of is)) ∙ none))
   ]
 

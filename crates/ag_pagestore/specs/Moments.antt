@@ -1,16 +1,18 @@
 -- What a crash may leave of a batch.
-use Rattle.std.specs.Prelude.{◌≡◌, ◌⊎◌, ℕ, List, false}
+use Rattle.std.specs.Prelude.{◌≡◌, ◌⊎◌, ℕ, List, take, false}
 use Rattle.std.specs.List.{AllByRecursion}
 use Rattle.ag_outside.specs.Disks.{Content, Image, WroteSo}
 use Rattle.ag_model.specs.Cells.{is_sound}
 use Rattle.ag_page.specs.Home.{written_over}
 use Rattle.ag_pagestore.specs.declared.batch.PageWrite.{PageWrite}
 use Rattle.ag_pagestore.specs.Places.{image_of, page_cells, IsOutside}
-use Rattle.ag_pagestore.specs.Batches.{written}
+use Rattle.ag_pagestore.specs.Batches.{IsWhole, written}
 
--- each sector has what it might have held before, or what the batch writes there
-abbrev pub IsPartOf : (ℕ → Content → Type 0) → Image → List PageWrite → Image → Type 0
-IsPartOf may_hold old batch image = (at : ℕ) → may_hold at (image at) ⊎ WroteSo (written old batch) at (image at)
+-- Some of the pages were begun: each sector has what it might have held before, or what is written there for one of these.
+pub record IsPartOf (may_hold : ℕ → Content → Type 0) (old : Image) (batch : List PageWrite) (image : Image) : Type 0 where
+  pub begun : ℕ
+  pub whole : AllByRecursion IsWhole (take begun batch)
+  pub each : (at : ℕ) → may_hold at (image at) ⊎ WroteSo (written old (take begun batch)) at (image at)
 
 -- the page has its old image, or the new one, or one that isn't sound
 abbrev pub IsOldNewOrUnsound : Image → Image → PageWrite → Type 0

@@ -1,5 +1,6 @@
 //! Writing pages in batches.
 ghost use Rattle.std.specs.Prelude.{◌≡◌, ◌≤◌, ◌+◌, ◌∷◌, length, IsTrue, IfOk, OnOk, IsErrOf};
+ghost use Rattle.std.specs.List.{AllByRecursion};
 ghost use Rattle.ag_outside.specs.Calls.{Leads, IsReadOnly, TakesAll, FailsOnTheWay};
 ghost use Rattle.ag_outside.specs.Counts.{HasRisen};
 ghost use Rattle.ag_outside.specs.Disks.{put_all, MayAdd, SameImages, Only, Elapses, HasCause};
@@ -7,7 +8,7 @@ ghost use Rattle.ag_outside.specs.Moments.{LeavesOnly};
 ghost use Rattle.ag_model.specs.Cells.{mark_after};
 ghost use Rattle.ag_pagestore.specs.Places.{place, page_cells};
 ghost use Rattle.ag_pagestore.specs.Found.{ReadsUntilFault};
-ghost use Rattle.ag_pagestore.specs.Batches.{RisesFrom, IsBatch, IsWritten, AreNext, pieces, written, went, WritesUntilFault};
+ghost use Rattle.ag_pagestore.specs.Batches.{RisesFrom, IsWhole, IsBatch, IsWritten, AreNext, pieces, written, went, WritesUntilFault};
 ghost use Rattle.ag_pagestore.specs.Moments.{IsPartOf, IsOldOrNew};
 
 use crate::fault::PageWriteFault;
@@ -75,6 +76,7 @@ fn write_pages<D: Disk>(
     requires rises { RisesFrom 16 pages.now }
     requires places { 33088 ≤ D.size disk.old }
     requires marks { IsTrue (D.keeps disk.old) → AreNext (D.reads disk.old) pages.now marks.now }
+    ensures whole { OnOk result (AllByRecursion IsWhole pages.now) }
     ensures written { OnOk result (IsTrue (D.keeps disk.old) → D.reads disk.new ≡ put_all (D.reads disk.old) (written (D.reads disk.old) pages.now)) }
     ensures calls { OnOk result (IsTrue (D.keeps disk.old) → Leads D.did disk.old (went (pieces (D.reads disk.old) pages.now)) disk.new) }
     ensures broken { IsErrOf result DiskError.Failed → IsTrue (D.keeps disk.old) → WritesUntilFault D.did disk.old (pieces (D.reads disk.old) pages.now) disk.new }
@@ -97,6 +99,7 @@ fn write_and_sync<D: Disk>(disk: &mut D, pages: &[PageWrite]) -> Result<(), Disk
     requires few { length pages.now ≤ 8 }
     requires rises { RisesFrom 16 pages.now }
     requires places { 33088 ≤ D.size disk.old }
+    ensures whole { OnOk result (AllByRecursion IsWhole pages.now) }
     ensures written { OnOk result (IsTrue (D.keeps disk.old) → D.reads disk.new ≡ put_all (D.reads disk.old) (written (D.reads disk.old) pages.now)) }
     ensures durable { OnOk result (IsTrue (D.keeps disk.old) → Only (D.reads disk.new) (D.may_hold disk.new)) }
     ensures calls { OnOk result (IsTrue (D.keeps disk.old) → TakesAll D.did disk.old (pieces (D.reads disk.old) pages.now) disk.new) }
@@ -127,7 +130,6 @@ pub fn write_batch<D: Disk>(disk: &mut D, pages: &[PageWrite]) -> Result<(), Pag
     // Where nothing was unsynced, a crash at any moment leaves each page with its old image, with the new one, or with one
     // that isn't sound, and each other sector with what it had.
     ensures any_moment { Only (D.reads disk.old) (D.may_hold disk.old) → LeavesOnly D.moment D.left_since disk.old disk.new (IsOldOrNew (D.reads disk.old) pages.now) }
-    ensures parts { LeavesOnly D.moment D.left_since disk.old disk.new (IsPartOf (D.may_hold disk.old) (D.reads disk.old) pages.now) }
 
     // The disk took each page in one call, and one sync; or it failed on the way.
     ensures calls { OnOk result (IsTrue (D.keeps disk.old) → TakesAll D.did disk.old (pieces (D.reads disk.old) pages.now) disk.new) }

@@ -75,7 +75,8 @@ pub(crate) fn mark_after(cells: &[Cell; 16]) -> u8
 
 /// A sector with another mark.
 fn sector_with_mark(sector: &[u8; 512], mark: u8) -> [u8; 512]
-    ensures { result ≡ take 511 sector.now ++ mark ∷ [] }
+    ensures marked { result ≡ take 511 sector.now ++ mark ∷ [] }
+    ensures long { length sector.now ≡ 512 }
 {
     let mut marked = [mark; 512];
     marked[..511].copy_from_slice(&sector[..511]);
@@ -84,7 +85,9 @@ fn sector_with_mark(sector: &[u8; 512], mark: u8) -> [u8; 512]
 
 /// The image with another mark.
 pub(crate) fn with_mark(image: &Image, mark: u8) -> Image
-    ensures { result ≡ with_mark mark image.now }
+    ensures marked { result ≡ with_mark mark image.now }
+    ensures sectors { length image.now ≡ 16 }
+    ensures bytes { AllByRecursion (λ s. length s ≡ 512) image.now }
 {
     let mut marked = *image;
     for (place, sector) in image.iter().enumerate() {

@@ -65,7 +65,7 @@ returns-in_err-sync-clause-any_moment g c =
     goes_on g.D.Disk.moment g.D.Disk.left_since d later new (IsPartOf (hold d) (g.D.Disk.reads d) batch) _ _ wrote c.sync.ensures.time
       (λ image at_new.
         let keeps = subst IsTrue (c.sync.ensures.keeps ∙ c.write_pages.ensures.keeps) (g.met.D.Disk.tells new 0 (image 0) (at_new 0)) in
-        over image (part_synced (hold mid) (hold later) (hold new) (g.D.Disk.reads mid) batch (c.in_ok-write_pages.ensures.crash keeps) c.sync.ensures.crash image at_new))
+        over image (part_synced (hold mid) (hold later) (hold new) (g.D.Disk.reads mid) batch (c.in_ok-write_pages.ensures.crash keeps) c.sync.ensures.crash c.in_ok-write_pages.ensures.whole image at_new))
 
 pub returns-clause-any_moment : goal.returns-clause-any_moment
 returns-clause-any_moment g c =
@@ -82,4 +82,4 @@ returns-clause-any_moment g c =
     goes_on g.D.Disk.moment g.D.Disk.left_since d later new (IsPartOf (hold d) (g.D.Disk.reads d) batch) _ _ wrote c.sync.ensures.time
       (λ image at_new.
         let keeps = subst IsTrue (c.sync.ensures.keeps ∙ c.write_pages.ensures.keeps) (g.met.D.Disk.tells new 0 (image 0) (at_new 0)) in
-        over image (part_synced (hold mid) (hold later) (hold new) (g.D.Disk.reads mid) batch (c.in_ok-write_pages.ensures.crash keeps) c.sync.ensures.crash image at_new))
+        over image (part_synced (hold mid) (hold later) (hold new) (g.D.Disk.reads mid) batch (c.in_ok-write_pages.ensures.crash keeps) c.sync.ensures.crash c.in_ok-write_pages.ensures.whole image at_new))
