@@ -6,11 +6,6 @@ use Rattle.ag_master.specs.declared.sector.Loaded.{Loaded}
 use Rattle.ag_master.specs.declared.sector.Loaded.TheVariants.{Fresh, Is, Other}
 use Rattle.ag_master.specs.Spelling.{spelling, HasSpelling}
 
--- the bytes of a sector, where a lost one counts as zeros
-abbrev pub bytes_of_content : Content → List ℕ
-bytes_of_content (Some bytes) = bytes
-bytes_of_content None = replicate 512 0
-
 -- all zero, or a master, or neither
 abbrev pub IsLoaded : List ℕ → Loaded → Type 0
 IsLoaded bytes Fresh = bytes ≡ replicate 512 0

@@ -1,10 +1,11 @@
 //! The master on a disk.
 ghost use Rattle.std.specs.Prelude.{◌≡◌, ◌⊎◌, ◌≤◌, [], ◌∷◌, ℕ, IsTrue, Some, IfOk, OnOk, IsErrOf};
 ghost use Rattle.ag_outside.specs.Counts.{HasRisen};
-ghost use Rattle.ag_outside.specs.Disks.{Image, put, MayAdd, SameImages, Only, IsImage};
+ghost use Rattle.ag_outside.specs.Disks.{or_zeros, Image, put, MayAdd, SameImages, Only, IsImage};
+ghost use Rattle.ag_outside.specs.Calls.{Piece, TakesAll, FailsOnTheWay, IsReadOnly};
 ghost use Rattle.ag_outside.specs.Moments.{LeavesOnly};
 ghost use Rattle.ag_master.specs.Spelling.{spelling, IsKept};
-ghost use Rattle.ag_master.specs.Loading.{bytes_of_content, IsLoaded, IsOldOrNew};
+ghost use Rattle.ag_master.specs.Loading.{IsLoaded, IsOldOrNew};
 
 use crate::master::Master;
 use crate::sector::{Loaded, decode, encode};
@@ -31,13 +32,17 @@ fn fault(e: DiskError) -> MasterFault
 /// The master of sector 0, where a lost sector counts as zeros.
 pub fn load<D: Disk>(disk: &mut D) -> Result<Loaded, MasterFault>
     requires { 1 ≤ D.size disk.old }
-    ensures loaded { IfOk result (λ l. IsTrue (D.keeps disk.old) → IsLoaded (bytes_of_content (D.reads disk.old 0)) l) }
+    ensures loaded { IfOk result (λ l. IsTrue (D.keeps disk.old) → IsLoaded (or_zeros (D.reads disk.old 0)) l) }
     ensures reads { D.reads disk.new ≡ D.reads disk.old }
     ensures crash { SameImages (D.may_hold disk.old) (D.may_hold disk.new) }
     ensures fault { IsErrOf result MasterFault.DiskFault → HasRisen (D.faults disk.old) (D.faults disk.new) }
     ensures faults { D.faults disk.old ≤ D.faults disk.new }
     ensures size { D.size disk.new ≡ D.size disk.old }
     ensures keeps { D.keeps disk.new ≡ D.keeps disk.old }
+
+    // The disk is read, and nothing else.
+    ensures calls { OnOk result (IsReadOnly D.did disk.old disk.new) }
+    ensures broken { IsErrOf result MasterFault.DiskFault → FailsOnTheWay D.did disk.old [] disk.new }
 {
     let mut sector = [0; 512];
     match disk.read(0, &mut sector) {
@@ -63,6 +68,10 @@ pub fn save<D: Disk>(disk: &mut D, m: &Master) -> Result<(), MasterFault>
     ensures faults { D.faults disk.old ≤ D.faults disk.new }
     ensures size { D.size disk.new ≡ D.size disk.old }
     ensures keeps { D.keeps disk.new ≡ D.keeps disk.old }
+
+    // The disk takes the sector and syncs it, or fails on the way.
+    ensures calls { OnOk result (TakesAll D.did disk.old (record { first = 0; sectors = spelling m.now ∷ [] } ∷ []) disk.new) }
+    ensures broken { IsErrOf result MasterFault.DiskFault → FailsOnTheWay D.did disk.old (record { first = 0; sectors = spelling m.now ∷ [] } ∷ []) disk.new }
 {
     match disk.write(0, &[encode(m)]) {
         Ok(()) => match disk.sync() {

@@ -5,12 +5,7 @@ pub mod Quiet
 pub mod RoomUsed
 pub mod RoomLog
 pub mod RoomPairs
-pub mod LogEnds
-pub mod LogStarts
-pub mod LogCopies
-pub mod Fitting
 pub mod SetFits
-pub mod LogMore
 pub mod NodeSteps
 pub mod Rising
 pub mod NodeSets

@@ -21,7 +21,7 @@ use Rattle.ag_node.specs.View.{node_of, page_of_flag}
 use Rattle.ag_node.specs.Room.{IsSetLog, first_full, used_after, unless_some}
 use Rattle.ag_node.specs.Nodes.{IsNode, leading_of}
 use Rattle.ag_node.proofs.Quiet.{access_is_free}
-use Rattle.ag_node.proofs.Fitting.{fit_append}
+use Rattle.ag_logstore.proofs.Fitting.{fit_append}
 use Rattle.ag_node.proofs.RoomLog.{set_log_grows}
 use Rattle.ag_node.proofs.RoomPairs.{pairs_pass_by_room}
 

@@ -13,7 +13,7 @@ use Rattle.ag_model.specs.Proper.{RisesFrom}
 use Rattle.ag_record.specs.Spelling.{HaveSpelling, IsPage, ArePages}
 use Rattle.ag_built.specs.Built.{IsPair}
 use Rattle.ag_rules.specs.SetEvent.{pages_of_pairs, records_of_set}
-use Rattle.ag_node.proofs.Fitting.{fit_append}
+use Rattle.ag_logstore.proofs.Fitting.{fit_append}
 
 -- the puts
 puts_fit : (txn : ℕ) (pairs : List Pair) → txn < 2 ^ 64 → AllByRecursion IsPair pairs → AllByRecursion (λ (pair : Pair). pair.key < 2 ^ 32) pairs → HaveSpelling (map (λ (pair : Pair). Put txn pair.key pair.value) pairs)

@@ -3,6 +3,5 @@ pub mod Sites
 pub mod Room
 pub mod Folded
 pub mod Marked
-pub mod LogKept
 pub mod Nodes
 pub mod Out

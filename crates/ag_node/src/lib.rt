@@ -2,7 +2,6 @@
 #![tactic(auto)]
 
 mod listed;
-mod log;
 mod marks;
 pub mod node;
 pub mod opening;

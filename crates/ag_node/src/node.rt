@@ -11,11 +11,11 @@ ghost use Rattle.ag_node.specs.Nodes.{IsRefusedBy};
 mod following;
 mod leading;
 
-use crate::log::{HardenedLog, block_sectors_of};
 use crate::opening::{clean, known_at_opening, unused};
 use crate::peer::PeerState;
 use crate::site::Site;
 use crate::stripes::Stripes;
+use ag_logstore::{HardenedLog, block_sectors_of};
 use ag_model::answer::{Answer, Refusal};
 use ag_model::config::Config;
 use ag_model::list::ListOf;

@@ -57,3 +57,9 @@ HasSpelling (Term term) = term < 2 ^ 64
 -- records that can be written
 abbrev pub HaveSpelling : List Record → Type 0
 HaveSpelling rs = AllByRecursion HasSpelling rs
+
+-- records that take 1 to 15488 bytes
+pub record ArePayload (records : List Record) : Type 0 where
+  pub fit : HaveSpelling records
+  pub least : 1 ≤ length (records_spelling records)
+  pub most : length (records_spelling records) ≤ 15488

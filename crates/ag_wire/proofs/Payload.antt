@@ -12,7 +12,7 @@ use Rattle.ag_model.proofs.Numbers.{AreBytes-drop, AreBytes-take}
 use Rattle.ag_model.specs.declared.record.Record.{Record}
 use Rattle.ag_record.specs.declared.fault.RecordFault.{RecordFault}
 use Rattle.ag_record.specs.declared.fault.RecordFault.TheVariants.{NoMemory}
-use Rattle.ag_record.specs.Spelling.{spelling, records_spelling, HasSpelling, HaveSpelling}
+use Rattle.ag_record.specs.Spelling.{spelling, records_spelling, HasSpelling, HaveSpelling, ArePayload}
 use Rattle.ag_record.specs.Steps.{◌>>=◌, number_at}
 use Rattle.ag_record.specs.Reading.{record_at, reading}
 use Rattle.ag_record.specs.Lists.{MayFail}
@@ -21,7 +21,6 @@ use Rattle.ag_record.proofs.Records.{record_takes, record_again, length-spelling
 use Rattle.ag_record.proofs.Many.{size-least, length-records}
 use Rattle.ag_wire.specs.declared.fault.WireFault.{WireFault}
 use Rattle.ag_wire.specs.declared.fault.WireFault.TheVariants.{Short, BadLength, BadRecord}
-use Rattle.ag_wire.specs.Spelling.{ArePayload}
 use Rattle.ag_wire.specs.Reading.{Fails, as_record, wire_fault, records_of, records_in, payload_at}
 
 as_record_ok : (r : Result (Record × List ℕ) RecordFault) (x : Record × List ℕ) → as_record r ≡ Ok x → r ≡ Ok x

@@ -8,8 +8,7 @@ use Rattle.ag_model.specs.declared.message.Block.{Block as BlockOf}
 use Rattle.ag_model.specs.declared.message.Body.{Body}
 use Rattle.ag_model.specs.declared.message.Body.TheVariants.{Hello, Resume, Block, Ack, PageAsk, PageGive, PageNo}
 use Rattle.ag_model.specs.declared.message.Message.{Message}
-use Rattle.ag_model.specs.declared.record.Record.{Record}
-use Rattle.ag_record.specs.Spelling.{records_spelling, HaveSpelling}
+use Rattle.ag_record.specs.Spelling.{records_spelling, ArePayload}
 
 -- two numbers of 8 bytes
 abbrev pub pair_spelling : ℕ → ℕ → List ℕ
@@ -80,12 +79,6 @@ pub record AreStarts (starts : List TermStart) : Type 0 where
 -- a ticket that can be written
 abbrev pub IsTicket : Ticket → Type 0
 IsTicket t = (t.incarnation < 2 ^ 64) × (t.joins < 2 ^ 32)
-
--- records that take 1 to 15488 bytes
-pub record ArePayload (records : List Record) : Type 0 where
-  pub fit : HaveSpelling records
-  pub least : 1 ≤ length (records_spelling records)
-  pub most : length (records_spelling records) ≤ 15488
 
 -- a block that can be written
 abbrev pub IsBlock : BlockOf → Type 0

@@ -3,8 +3,8 @@ ghost use Rattle.std.specs.Prelude.{◌≡◌, ◌++◌, length, OnOk, OnErr};
 ghost use Rattle.std.specs.List.{flat_map};
 ghost use Rattle.std.specs.Int.{w16, w32, w64, to_be_bytes};
 ghost use Rattle.ag_record.specs.Lists.{Begins};
-ghost use Rattle.ag_record.specs.Spelling.{records_spelling};
-ghost use Rattle.ag_wire.specs.Spelling.{pair_spelling, ticket_spelling, start_spelling, starts_spelling, block_spelling, kind_of, fields_spelling, head_spelling, spelling, AreStarts, ArePayload, IsBlock, IsBody, HasSpelling};
+ghost use Rattle.ag_record.specs.Spelling.{records_spelling, ArePayload};
+ghost use Rattle.ag_wire.specs.Spelling.{pair_spelling, ticket_spelling, start_spelling, starts_spelling, block_spelling, kind_of, fields_spelling, head_spelling, spelling, AreStarts, IsBlock, IsBody, HasSpelling};
 
 use ag_model::config::{TermStart, Ticket};
 use ag_model::message::{Block, Body, Message};

@@ -17,11 +17,11 @@ ghost use Rattle.ag_node.specs.Nodes.{IsRefusedBy};
 
 use super::{Node, TERM, not_primary};
 use crate::listed::records_of_set;
-use crate::log::records_size;
 use crate::marks::mark;
 use crate::room::{first_full, spend};
 use crate::site::Site;
 use crate::stripes::Stripes;
+use ag_logstore::records_size;
 use ag_model::answer::{Answer, Refusal};
 use ag_model::event::{Pair, PairList};
 use ag_model::message::{Block, Body, Message};

@@ -3,7 +3,7 @@ use Rattle.std.proofs.lemmas.List.{with_items_is, length-append}
 use Rattle.ag_model.specs.declared.record.Log.{Log}
 use Rattle.ag_rules.specs.Replica.{Replica, all_at}
 use Rattle.ag_node.specs.Marked.{marked}
-use Rattle.ag_node.proofs.Fitting.{payload_buffer}
+use Rattle.ag_logstore.proofs.Fitting.{payload_buffer}
 use Rattle.ag_node.proofs.NodeSteps.{node_same, node_hardened}
 use Rattle.ag_node.proofs.node.Node.harden_buffer.Goals as goal
 

@@ -2,7 +2,7 @@ use Rattle.std.proofs.Common.{◌-◌, ◌≤◌, sym, subst, arith}
 use Rattle.ag_model.specs.Blocks.{after_to}
 use Rattle.ag_model.specs.Sizes.{records_size}
 use Rattle.ag_rules.specs.Replica.{Replica, records, end}
-use Rattle.ag_node.proofs.Fitting.{payload_copy}
+use Rattle.ag_logstore.proofs.Fitting.{payload_copy}
 use Rattle.ag_node.proofs.node.Node.send_block.Goals as goal
 
 pub returns-clause-built : goal.returns-clause-built

@@ -1,0 +1,6 @@
+use Rattle.std.proofs.Common.{◌≡◌, take}
+use Rattle.ag_logstore.specs.LogKept.{term_by}
+use Rattle.ag_logstore.proofs.search.term_of.Given as goal
+
+abbrev pub invariant-loop-i : goal.invariant-loop-i
+invariant-loop-i l = term_by l.last l.starts ≡ term_by l.last (take l.i l.starts)
