@@ -71,11 +71,11 @@ module _ {D : Type 0} (did : D → Call → D → Type 0) (old mid : D) (read : 
       }
 
   -- reads, then one more
-  pub reads_on : (at : ℕ) (found : Found) (new : D) → did mid (Read_call at (Ok found)) new → IsReadOnly did old new
-  reads_on at found new here = record {
-    calls = read.calls ++ Read_call at (Ok found) ∷ [];
-    leads = leads_on did read.calls (Read_call at (Ok found)) old mid new read.leads here;
-    reads = after_reads read.calls (Read_call at (Ok found) ∷ []) read.reads;
+  pub reads_on : (at : ℕ) (result : Result Found DiskError) (new : D) → did mid (Read_call at result) new → IsReadOnly did old new
+  reads_on at result new here = record {
+    calls = read.calls ++ Read_call at result ∷ [];
+    leads = leads_on did read.calls (Read_call at result) old mid new read.leads here;
+    reads = after_reads read.calls (Read_call at result ∷ []) read.reads;
   }
 
   -- reads, then one that failed

@@ -1,5 +1,6 @@
 pub mod Faults
 pub mod Fresh
+pub mod Kept
 pub mod Leading
 pub mod Lists
 pub mod Mixed

@@ -19,7 +19,7 @@ use Rattle.ag_pagestore.proofs.Sixteen.{image-long, at_place}
 pub image_is : (disk : Image) (page : ℕ) (cs : List Content) → length cs ≡ 16 → ((k : ℕ) → k < 16 → disk (place page + k) ≡ get_or cs k None) → image_of disk page ≡ cs
 image_is disk page cs long each = ext_get_or None (image_of disk page) cs (image-long disk page ∙ sym long) (λ k lt. let within : k < 16 = omega (arith, image-long disk page) in at_place disk page k within ∙ each k within)
 
-length-marked : (disk : Image) (w : PageWrite) → IsWhole w → length (marked disk w) ≡ 16
+pub length-marked : (disk : Image) (w : PageWrite) → IsWhole w → length (marked disk w) ≡ 16
 length-marked disk w whole = length-map w.image _ ∙ whole.0
 
 length-over : (os : List Content) (w : PageWrite) → IsWhole w → length (written_over os w.image) ≡ 16

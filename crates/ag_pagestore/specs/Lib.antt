@@ -3,3 +3,4 @@ pub mod Places
 pub mod Found
 pub mod Batches
 pub mod Moments
+pub mod Stopped

@@ -30,7 +30,7 @@ fn next_marks<D: Disk>(disk: &mut D, pages: &[PageWrite]) -> Result<[u8; 8], Dis
     requires rises { RisesFrom 16 pages.now }
     requires places { 33088 ≤ D.size disk.old }
     ensures marks { IfOk result (λ marks. IsTrue (D.keeps disk.old) → AreNext (D.reads disk.old) pages.now marks) }
-    ensures calls { OnOk result (IsReadOnly D.did disk.old disk.new) }
+    ensures calls { IsReadOnly D.did disk.old disk.new }
     ensures broken { IsErrOf result DiskError.Failed → ReadsUntilFault D.did disk.old disk.new }
     ensures reads { D.reads disk.new ≡ D.reads disk.old }
     ensures crash { SameImages (D.may_hold disk.old) (D.may_hold disk.new) }
@@ -51,7 +51,7 @@ fn next_marks<D: Disk>(disk: &mut D, pages: &[PageWrite]) -> Result<[u8; 8], Dis
 fn next_mark<D: Disk>(disk: &mut D, page: u16) -> Result<u8, DiskError>
     requires { place page + 16 ≤ D.size disk.old }
     ensures mark { IfOk result (λ mark. IsTrue (D.keeps disk.old) → mark ≡ mark_after (page_cells (D.reads disk.old) page)) }
-    ensures calls { OnOk result (IsReadOnly D.did disk.old disk.new) }
+    ensures calls { IsReadOnly D.did disk.old disk.new }
     ensures broken { IsErrOf result DiskError.Failed → ReadsUntilFault D.did disk.old disk.new }
     ensures reads { D.reads disk.new ≡ D.reads disk.old }
     ensures crash { SameImages (D.may_hold disk.old) (D.may_hold disk.new) }

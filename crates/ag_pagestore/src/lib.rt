@@ -3,6 +3,7 @@
 
 mod batch;
 mod fault;
+pub mod laws;
 mod marks;
 mod reading;
 mod sectors;

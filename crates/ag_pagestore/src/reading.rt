@@ -23,9 +23,7 @@ pub fn read<D: Disk>(disk: &mut D, page: u16, into: &mut Image) -> Result<(), Pa
     ensures image { OnOk result (IsTrue (D.keeps disk.old) → image_of (D.reads disk.old) page ≡ readable into.new) }
 
     // It reads, and nothing else. No sector and no image changes.
-    ensures calls { OnOk result (IsReadOnly D.did disk.old disk.new) }
-    ensures calls_unreadable { IsErrOf result PageReadFault.Unreadable → IsReadOnly D.did disk.old disk.new }
-    ensures calls_torn { IsErrOf result PageReadFault.Torn → IsReadOnly D.did disk.old disk.new }
+    ensures calls { IsReadOnly D.did disk.old disk.new }
     ensures broken { IsErrOf result PageReadFault.DiskFault → FailsOnTheWay D.did disk.old [] disk.new }
     ensures reads { D.reads disk.new ≡ D.reads disk.old }
     ensures crash { SameImages (D.may_hold disk.old) (D.may_hold disk.new) }

@@ -1,5 +1,5 @@
 //! The 16 sectors of a page, read one by one.
-ghost use Rattle.std.specs.Prelude.{◌≡◌, ◌+◌, ◌<◌, ◌≤◌, IsTrue, IfOk, OnOk, IsErrOf};
+ghost use Rattle.std.specs.Prelude.{◌≡◌, ◌+◌, ◌<◌, ◌≤◌, IsTrue, IfOk, IsErrOf};
 ghost use Rattle.ag_outside.specs.Calls.{IsReadOnly};
 ghost use Rattle.ag_outside.specs.Disks.{SameImages, Elapses, HasCause};
 ghost use Rattle.ag_pagestore.specs.Places.{place, image_of};
@@ -20,7 +20,7 @@ pub(crate) fn place(page: u16) -> u32
 fn read_sector<D: Disk>(disk: &mut D, at: u32, into: &mut [u8; 512]) -> Result<Cell, DiskError>
     requires { at < D.size disk.old }
     ensures found { IfOk result (λ cell. IsTrue (D.keeps disk.old) → IsSector (D.reads disk.old at) cell into.new) }
-    ensures calls { OnOk result (IsReadOnly D.did disk.old disk.new) }
+    ensures calls { IsReadOnly D.did disk.old disk.new }
     ensures broken { IsErrOf result DiskError.Failed → ReadsUntilFault D.did disk.old disk.new }
     ensures reads { D.reads disk.new ≡ D.reads disk.old }
     ensures crash { SameImages (D.may_hold disk.old) (D.may_hold disk.new) }
@@ -44,7 +44,7 @@ pub(crate) fn read_sectors<D: Disk>(
 ) -> Result<[Cell; 16], DiskError>
     requires { place page + 16 ≤ D.size disk.old }
     ensures found { IfOk result (λ cells. IsTrue (D.keeps disk.old) → IsFound (image_of (D.reads disk.old) page) cells into.new) }
-    ensures calls { OnOk result (IsReadOnly D.did disk.old disk.new) }
+    ensures calls { IsReadOnly D.did disk.old disk.new }
     ensures broken { IsErrOf result DiskError.Failed → ReadsUntilFault D.did disk.old disk.new }
     ensures reads { D.reads disk.new ≡ D.reads disk.old }
     ensures crash { SameImages (D.may_hold disk.old) (D.may_hold disk.new) }

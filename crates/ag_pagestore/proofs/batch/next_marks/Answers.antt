@@ -20,6 +20,9 @@ returns-in_err-marks-clause-broken g c = λ failed.
     let e = failed_is c.from_residual.result c.in_err-marks.field-0.0 (err_from_is_err_and c.from_residual.result c.from_residual.ensures.1) failed in
     reads_fail g.D.Disk.did c.args.disk.now c.loop-i.disk c.loop-i.invariant.calls c.next_mark.new.disk (c.next_mark.ensures.broken (c.in_err-marks.was ∙ ap (λ (x : DiskError). Err x) e))
 
+pub returns-in_err-marks-clause-calls : goal.returns-in_err-marks-clause-calls
+returns-in_err-marks-clause-calls g c = reads_both g.D.Disk.did c.args.disk.now c.loop-i.disk c.loop-i.invariant.calls c.next_mark.new.disk c.next_mark.ensures.calls
+
 pub loop-i-preserved : goal.loop-i-preserved
 loop-i-preserved g c =
     let d = c.args.disk.now in

@@ -15,6 +15,9 @@ returns-in_err-cells-clause-broken g c = λ failed.
     let e = failed_is c.from_residual.result c.in_err-cells.field-0.0 (err_from_is_err_and c.from_residual.result c.from_residual.ensures.1) failed in
     reads_fail g.D.Disk.did c.args.disk.now c.loop-i.disk c.loop-i.invariant.calls c.read_sector.new.disk (c.read_sector.ensures.broken (c.in_err-cells.was ∙ ap (λ (x : DiskError). Err x) e))
 
+pub returns-in_err-cells-clause-calls : goal.returns-in_err-cells-clause-calls
+returns-in_err-cells-clause-calls g c = reads_both g.D.Disk.did c.args.disk.now c.loop-i.disk c.loop-i.invariant.calls c.read_sector.new.disk c.read_sector.ensures.calls
+
 pub loop-i-preserved : goal.loop-i-preserved
 loop-i-preserved g c =
     let d = c.args.disk.now in
