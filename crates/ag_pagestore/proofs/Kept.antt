@@ -16,7 +16,7 @@ use Rattle.ag_pagestore.specs.Places.{place, image_of, page_cells, IsOutside}
 use Rattle.ag_pagestore.specs.Batches.{RisesFrom, IsWhole, marked, written}
 use Rattle.ag_pagestore.specs.Stopped.{AreKept}
 use Rattle.ag_pagestore.proofs.Mixed.{AllMark, all_marked}
-use Rattle.ag_pagestore.proofs.Pages.{length-marked, pages_written}
+use Rattle.ag_pagestore.proofs.Pages.{length-marked, below_outside}
 use Rattle.ag_pagestore.proofs.Sixteen.{image-long, at_place}
 
 -- the image after one write that is kept or not
@@ -107,3 +107,58 @@ outside_kept old now mask n (w ∷ ws) at whole out =
 
 pub others_kept : (disk : Image) (batch : List PageWrite) (mask from at : ℕ) → AllByRecursion IsWhole batch → AllByRecursion (λ w. IsOutside w.page at) batch → put_all disk (kept mask from (written disk batch)) at ≡ disk at
 others_kept disk batch mask from at whole out = outside_kept disk disk mask from batch at whole out
+
+cell_at : (disk : Image) (page k : ℕ) → k < 16 → get_or (page_cells disk page) k Lost ≡ cell_of (disk (place page + k))
+cell_at disk page k lt = get_or-map cell_of (image_of disk page) k None Lost (omega (arith, image-long disk page)) ∙ ap cell_of (at_place disk page k lt)
+
+length-cells : (disk : Image) (page : ℕ) → length (page_cells disk page) ≡ 16
+length-cells disk page = length-map (image_of disk page) cell_of ∙ image-long disk page
+
+-- the cells of a page of which some sectors are new
+page_kept : (old new : Image) (mask n : ℕ) (w : PageWrite) → IsWhole w → ((k : ℕ) → k < 16 → new (place w.page + k) ≡ cond (is_kept mask (n + k)) (Some (get_or (marked old w) k [])) (old (place w.page + k)))
+    → page_cells new w.page ≡ kept_cells mask n (mark_after (page_cells old w.page)) (page_cells old w.page)
+page_kept old new mask n w whole each =
+    let cs = page_cells old w.page in
+    let m = mark_after cs in
+    let own : (k : ℕ) → k < 16 → cell_of (Some (get_or (marked old w) k [])) ≡ Mark m = λ k lt.
+        ap cell_of (sym (get_or-map (λ s. Some s) (marked old w) k [] None (omega (arith, length-marked old w whole)))) ∙ mark_at m (readable (marked old w)) k (all_marked m w.image whole.1) (omega (arith, length-marked old w whole, length-map (marked old w) (λ s. Some s))) in
+    ext_get_or Lost (page_cells new w.page) (kept_cells mask n m cs) (length-cells new w.page ∙ sym (length-cells old w.page) ∙ sym (length-kept mask n m cs)) (λ k below.
+      let lt : k < 16 = omega (arith, below, length-cells new w.page) in
+      cell_at new w.page k lt ∙ ap cell_of (each k lt) ∙ cell-cond (is_kept mask (n + k)) (Some (get_or (marked old w) k [])) (old (place w.page + k))
+      ∙ ap (λ (c : Cell). cond (is_kept mask (n + k)) c (cell_of (old (place w.page + k)))) (own k lt)
+      ∙ ap (cond (is_kept mask (n + k)) (Mark m)) (sym (cell_at old w.page k lt))
+      ∙ sym (get_or-kept mask n m cs k (omega (arith, lt, length-cells old w.page))))
+
+pub pages_kept : (old now : Image) (mask n low : ℕ) (ws : List PageWrite) → RisesFrom low ws → AllByRecursion IsWhole ws → ((at : ℕ) → place low ≤ at → now at ≡ old at) → AreKept old (put_all now (kept mask n (written old ws))) mask n ws
+pages_kept old now mask n low [] rises whole same = tt
+pages_kept old now mask n low (w ∷ ws) rises whole same =
+    let above = rises.0 in
+    let long = length-marked old w whole.0 in
+    let mid = put_all now (kept mask n (writes (place w.page) (marked old w))) in
+    let both : put_all now (kept mask n (written old (w ∷ ws))) ≡ put_all mid (kept mask (n + 16) (written old ws)) =
+        ap (put_all now) (kept_run-append mask n (place w.page) (marked old w) (written old ws))
+        ∙ put_all-append now (kept mask n (writes (place w.page) (marked old w))) (kept mask (n + length (marked old w)) (written old ws))
+        ∙ ap (λ (j : ℕ). put_all mid (kept mask (n + j) (written old ws))) long in
+    (
+      page_kept old (put_all now (kept mask n (written old (w ∷ ws)))) mask n w whole.0 (λ k lt.
+        ap (λ (im : Image). im (place w.page + k)) both
+        ∙ outside_kept old mid mask (n + 16) ws (place w.page + k) whole.1 (below_outside (suc w.page) (place w.page + k) ws rises.2 (omega arith))
+        ∙ kept_within now mask n (place w.page) (marked old w) k (omega (arith, long))
+        ∙ ap (cond (is_kept mask (n + k)) (Some (get_or (marked old w) k []))) (same (place w.page + k) (omega (arith, above)))),
+      subst (λ (im : Image). AreKept old im mask (n + 16) ws) (sym both) (pages_kept old mid mask (n + 16) (suc w.page) ws rises.2 whole.1 (λ at le.
+        kept_outside now mask n (place w.page) (marked old w) at (inr (omega (arith, long, le))) ∙ same at (omega (arith, above, le)))),
+    )
+
+-- the cells of a page that is written whole
+cells_written : (m : ℕ) (ns : List Content) (cs : List Cell) → AllMark m ns → length ns ≡ length cs → cells_of ns ≡ map (λ _. Mark m) cs
+cells_written m [] [] all long = refl
+cells_written m (n ∷ ns) (c ∷ cs) all long = ap (λ (x : Cell). x ∷ cells_of ns) all.0 ∙ ap (λ (z : List Cell). Mark m ∷ z) (cells_written m ns cs all.1 (omega (arith, long)))
+cells_written m [] (c ∷ cs) all long = absurd (omega (arith, long))
+cells_written m (n ∷ ns) [] all long = absurd (omega (arith, long))
+
+pub all_cells : (old new : Image) (ws : List PageWrite) → AllByRecursion IsWhole ws → AllByRecursion (λ w. image_of new w.page ≡ readable (marked old w)) ws → AllByRecursion (λ w. page_cells new w.page ≡ written_cells (page_cells old w.page)) ws
+all_cells old new [] whole all = tt
+all_cells old new (w ∷ ws) whole all = (
+  ap cells_of all.0 ∙ cells_written (mark_after (page_cells old w.page)) (readable (marked old w)) (page_cells old w.page) (all_marked (mark_after (page_cells old w.page)) w.image whole.0.1) (length-map (marked old w) _ ∙ length-marked old w whole.0 ∙ sym (length-cells old w.page)),
+  all_cells old new ws whole.1 all.1,
+)

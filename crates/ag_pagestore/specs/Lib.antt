@@ -4,3 +4,4 @@ pub mod Found
 pub mod Batches
 pub mod Moments
 pub mod Stopped
+pub mod Homes

@@ -7,7 +7,9 @@ pub mod laws;
 mod marks;
 mod reading;
 mod sectors;
+mod store;
 
 pub use batch::{PageWrite, write_batch};
 pub use fault::{PageReadFault, PageWriteFault};
 pub use reading::read;
+pub use store::PageStore;
