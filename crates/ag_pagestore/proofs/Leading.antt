@@ -4,28 +4,9 @@ use Rattle.ag_outside.specs.declared.disk.Found.{Found}
 use Rattle.ag_outside.specs.declared.disk.DiskError.{DiskError}
 use Rattle.ag_outside.specs.declared.disk.DiskError.TheVariants.{Failed}
 use Rattle.ag_outside.specs.Calls.{Call, Write_call, Read_call, Sync_call, Leads, changing, Piece, all_went, BreaksOff, FailsAtRead, TakesAll, FailsOnTheWay, IsReadOnly}
+use Rattle.ag_pagestore.specs.Calling.{leads_both, leads_on, after_reads, reads_both}
 use Rattle.ag_pagestore.specs.Batches.{went, WritesUntilFault}
 use Rattle.ag_pagestore.specs.Found.{ReadsUntilFault}
-
-module _ {D : Type 0} (did : D → Call → D → Type 0) where
-  -- first these, then those
-  pub leads_both : (xs ys : List Call) (old mid new : D) → Leads did old xs mid → Leads did mid ys new → Leads did old (xs ++ ys) new
-  leads_both [] ys old mid new first then = subst (λ (d : D). Leads did d ys new) first then
-  leads_both (x ∷ xs) ys old mid new (next, here, first) then = (next, here, leads_both xs ys next mid new first then)
-
-  -- one call more
-  pub leads_on : (xs : List Call) (call : Call) (old mid new : D) → Leads did old xs mid → did mid call new → Leads did old (xs ++ call ∷ []) new
-  leads_on xs call old mid new first here = leads_both xs (call ∷ []) old mid new first (new, here, refl)
-
-pub changing-append : (xs ys : List Call) → changing (xs ++ ys) ≡ changing xs ++ changing ys
-changing-append [] ys = refl
-changing-append (Write_call first sectors result ∷ xs) ys = ap (λ (z : List Call). Write_call first sectors result ∷ z) (changing-append xs ys)
-changing-append (Read_call at result ∷ xs) ys = changing-append xs ys
-changing-append (Sync_call result ∷ xs) ys = ap (λ (z : List Call). Sync_call result ∷ z) (changing-append xs ys)
-
--- what comes after reads alone
-after_reads : (xs ys : List Call) → changing xs ≡ [] → changing (xs ++ ys) ≡ changing ys
-after_reads xs ys none = changing-append xs ys ∙ ap (λ (z : List Call). z ++ changing ys) none
 
 all_took : (pieces : List Piece) → changing (went pieces ++ Sync_call (Ok (record {})) ∷ []) ≡ all_went pieces
 all_took [] = refl
@@ -86,14 +67,6 @@ module _ {D : Type 0} (did : D → Call → D → Type 0) (old mid : D) (read : 
     last = (read.calls, at, refl);
   }
 
-  -- reads, and then reads
-  pub reads_both : (new : D) → IsReadOnly did mid new → IsReadOnly did old new
-  reads_both new more = record {
-    calls = read.calls ++ more.calls;
-    leads = leads_both did read.calls more.calls old mid new read.leads more.leads;
-    reads = after_reads read.calls more.calls read.reads ∙ more.reads;
-  }
-
   -- reads, and then reads until one failed
   pub reads_fail : (new : D) → ReadsUntilFault did mid new → ReadsUntilFault did old new
   reads_fail new more = record {
@@ -101,10 +74,6 @@ module _ {D : Type 0} (did : D → Call → D → Type 0) (old mid : D) (read : 
     leads = leads_both did read.calls more.calls old mid new read.leads more.leads;
     last = (read.calls ++ more.last.0, more.last.1, ap (λ (z : List Call). read.calls ++ z) more.last.2 ∙ sym (append_assoc read.calls more.last.0 (Read_call more.last.1 (Err Failed) ∷ [])));
   }
-
--- no call
-pub reads_none : {D : Type 0} (did : D → Call → D → Type 0) (old : D) → IsReadOnly did old old
-reads_none did old = record { calls = []; leads = refl; reads = refl }
 
 -- a failed read is a fault on the way to any pieces
 pub fails_at_read : {D : Type 0} (did : D → Call → D → Type 0) (old new : D) (pieces : List Piece) → ReadsUntilFault did old new → FailsOnTheWay did old pieces new

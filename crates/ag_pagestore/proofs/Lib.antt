@@ -9,4 +9,5 @@ pub mod Pages
 pub mod Rising
 pub mod Runs
 pub mod Sixteen
+pub mod Told
 pub mod Unused

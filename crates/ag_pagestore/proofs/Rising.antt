@@ -15,7 +15,7 @@ use Rattle.ag_pagestore.specs.declared.batch.PageWrite.{PageWrite}
 use Rattle.ag_pagestore.specs.Places.{place, page_cells}
 use Rattle.ag_pagestore.specs.Batches.{RisesFrom, IsWhole, marked, piece, pieces, written, went, WritesUntilFault}
 use Rattle.ag_pagestore.specs.Moments.{IsPartOf}
-use Rattle.ag_pagestore.proofs.Leading.{leads_on}
+use Rattle.ag_pagestore.specs.Calling.{leads_on}
 
 -- each page has a place
 pub page_below : (low : ℕ) (batch : List PageWrite) (i : ℕ) (d : PageWrite) → RisesFrom low batch → i < length batch → (get_or batch i d).page < 2064

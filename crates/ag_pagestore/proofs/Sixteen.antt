@@ -53,13 +53,6 @@ sector_more disk first i cells cell image bytes lt within before here k below = 
     (subst (λ (b : List ℕ). IsSector (disk (first + k)) (get_or cells k Lost) b) (sym (get_or-set_other image i k bytes [] apart)) (before k (omega arith)))
 ]
 
--- nothing changes over two runs of reads
-pub same_images : (a b c : ℕ → Content → Type 0) → SameImages a b → SameImages b c → SameImages a c
-same_images a b c p q at content = (λ h. (p at content).0 ((q at content).0 h), λ h. (q at content).1 ((p at content).1 h))
-
-pub same_itself : (a : ℕ → Content → Type 0) → SameImages a a
-same_itself a at content = (λ h. h, λ h. h)
-
 -- time that goes on twice, the second time with the same images
 pub elapses_on : (traced still : Bool) (before mid now : ℕ) (past then since : ℕ → Image → Type 0) (hold next : ℕ → Content → Type 0) → still ≡ traced → Elapses traced before mid past then hold → Elapses still mid now then since next → SameImages hold next → Elapses traced before now past since next
 elapses_on traced still before mid now past then since hold next is a b same = record {

@@ -4,4 +4,6 @@ pub mod Found
 pub mod Batches
 pub mod Moments
 pub mod Stopped
+pub mod Calling
 pub mod Homes
+pub mod HomeLaws

@@ -2,6 +2,7 @@
 ghost use Rattle.std.specs.Prelude.{◌≡◌, ◌≤◌, ℕ, IsTrue, true};
 ghost use Rattle.ag_pagestore.specs.Places.{IsPage};
 ghost use Rattle.ag_pagestore.specs.Homes.{has_place, told_images, Leaves};
+ghost use Rattle.ag_pagestore.specs.HomeLaws.{untouched_itself, leave_both};
 
 use crate::batch::{PageWrite, write_batch};
 use crate::fault::{PageReadFault, PageWriteFault};
@@ -65,7 +66,7 @@ impl<'a, D: Disk> PageHome for PageStore<'a, D> {
         }
     }
 
-    ghost leaves_itself = { λ a. ? };
+    ghost leaves_itself = { λ a. untouched_itself D.size D.keeps D.reads D.may_hold D.did (record { disk = a.disk.now; refusals = a.refusals }) };
 
-    ghost leaves_both = { λ a b c xs ys first then. ? };
+    ghost leaves_both = { λ a b c xs ys first then. leave_both D.size D.keeps D.reads D.may_hold D.did D.moment D.left_since xs ys (record { disk = a.disk.now; refusals = a.refusals }) (record { disk = b.disk.now; refusals = b.refusals }) (record { disk = c.disk.now; refusals = c.refusals }) first then };
 }

@@ -7,9 +7,10 @@ use Rattle.ag_model.specs.Cells.{mark_after}
 use Rattle.ag_pagestore.specs.declared.batch.PageWrite.{PageWrite}
 use Rattle.ag_pagestore.specs.Places.{page_cells}
 use Rattle.ag_pagestore.proofs.Faults.{failed_is}
-use Rattle.ag_pagestore.proofs.Leading.{reads_both, reads_fail}
+use Rattle.ag_pagestore.specs.Calling.{reads_both, same_images}
+use Rattle.ag_pagestore.proofs.Leading.{reads_fail}
 use Rattle.ag_pagestore.proofs.Rising.{place_below, next_more}
-use Rattle.ag_pagestore.proofs.Sixteen.{same_images, elapses_on}
+use Rattle.ag_pagestore.proofs.Sixteen.{elapses_on}
 use Rattle.ag_pagestore.proofs.batch.next_marks.Goals as goal
 
 pub next_mark-requires : goal.next_mark-requires

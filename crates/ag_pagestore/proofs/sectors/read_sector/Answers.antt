@@ -4,7 +4,8 @@ use Rattle.ag_outside.specs.declared.disk.Found.{Found}
 use Rattle.ag_outside.specs.declared.disk.DiskError.{DiskError}
 use Rattle.ag_outside.specs.Calls.{Call, Read_call}
 use Rattle.ag_pagestore.proofs.Faults.{failed_is}
-use Rattle.ag_pagestore.proofs.Leading.{reads_none, reads_on, read_fails}
+use Rattle.ag_pagestore.specs.Calling.{reads_none}
+use Rattle.ag_pagestore.proofs.Leading.{reads_on, read_fails}
 use Rattle.ag_pagestore.proofs.sectors.read_sector.Goals as goal
 
 pub returns-in_err-read-clause-broken : goal.returns-in_err-read-clause-broken

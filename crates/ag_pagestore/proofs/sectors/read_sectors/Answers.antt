@@ -6,8 +6,9 @@ use Rattle.ag_model.specs.declared.answer.Cell.TheVariants.{Lost}
 use Rattle.ag_outside.specs.Disks.{Image}
 use Rattle.ag_pagestore.specs.Found.{IsSector}
 use Rattle.ag_pagestore.proofs.Faults.{failed_is}
-use Rattle.ag_pagestore.proofs.Leading.{reads_none, reads_both, reads_fail}
-use Rattle.ag_pagestore.proofs.Sixteen.{all_found, sector_more, same_images, same_itself, elapses_on, elapses_none}
+use Rattle.ag_pagestore.specs.Calling.{reads_both, same_images, same_itself}
+use Rattle.ag_pagestore.proofs.Leading.{reads_fail}
+use Rattle.ag_pagestore.proofs.Sixteen.{all_found, sector_more, elapses_on}
 use Rattle.ag_pagestore.proofs.sectors.read_sectors.Goals as goal
 
 pub returns-in_err-cells-clause-broken : goal.returns-in_err-cells-clause-broken
