@@ -1,7 +1,9 @@
 -- What a home tells after a page was written.
-use Rattle.std.proofs.Common.{◌≡◌, ◌⊎◌, ◌+◌, ◌<◌, ◌≤◌, ℕ, List, [], ◌∷◌, get_or, Option, Some, None, Bool, true, false, IsTrue, cond, eqb, refl, sym, ap, ◌∙◌, arith, inl, inr}
+use Rattle.std.proofs.Common.{◌≡◌, ◌⊎◌, ◌+◌, ◌<◌, ◌≤◌, ◌-◌, ◌^◌, min, ℕ, List, [], ◌∷◌, get_or, Option, Some, None, Bool, true, false, IsTrue, cond, eqb, refl, sym, ap, ◌∙◌, arith, inl, inr}
 use Rattle.std.specs.Option.{IfSome}
 use Rattle.std.proofs.lemmas.Bool.Decides.{eqb_tells}
+use Rattle.std.proofs.lemmas.Bool.{cases_lt}
+use Rattle.ag_outside.specs.Counts.{HasRisen}
 use Rattle.ag_outside.specs.Disks.{Content, Image}
 use Rattle.ag_page.specs.Home.{with_page, written_over}
 use Rattle.ag_pagestore.specs.Places.{place, image_of, IsOutside}
@@ -26,3 +28,7 @@ with_page_is old new page image written =
 pub told_after : (keeps : Bool) (old new : Image) (page : ℕ) (image : List (List ℕ)) → (IsTrue keeps → IsWritten old (record { page = page; image = image } ∷ []) new) → IfSome (told_images keeps old) (λ images. told_images keeps new ≡ Some (with_page images page image))
 told_after true old new page image written = ap (λ (f : ℕ → List Content). Some f) (with_page_is old new page image (written refl))
 told_after false old new page image written = tt
+
+-- a count that stands still at its end
+pub counted : (n m : ℕ) → m ≡ min (n + 1) (2 ^ 64 - 1) → HasRisen n m
+counted n m is = elim (cases_lt n (2 ^ 64 - 1)) [ inl lt ↦ inl (omega (arith, is)) | inr le ↦ inr (omega (arith, is)) ]
