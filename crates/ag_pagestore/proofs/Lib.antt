@@ -11,3 +11,4 @@ pub mod Runs
 pub mod Sixteen
 pub mod Told
 pub mod Unused
+pub mod Writings

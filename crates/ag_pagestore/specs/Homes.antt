@@ -47,6 +47,12 @@ pub record Took {D : Type 0} (size : D → ℕ) (keeps : D → Bool) (reads : D 
   pub content : IsTrue (keeps old.disk) → Only (reads old.disk) (may_hold old.disk) → IsOldOrNew (reads old.disk) (one_page w) (reads new.disk)
   pub any_moment : Only (reads old.disk) (may_hold old.disk) → LeavesOnly moment left_since old.disk new.disk (IsOldOrNew (reads old.disk) (one_page w))
 
+-- of these at most the last was refused
+abbrev pub LastMayBeRefused : List PutBack → Type 0
+LastMayBeRefused [] = Unit {0}
+LastMayBeRefused (w ∷ []) = Unit {0}
+LastMayBeRefused (w ∷ ws) = (w.refused ≡ false) × LastMayBeRefused ws
+
 -- these writings in turn, with nothing but reads between them
 abbrev pub Leaves : {D : Type 0} → (D → ℕ) → (D → Bool) → (D → Image) → (D → ℕ → Content → Type 0) → (D → Call → D → Type 0) → (D → ℕ) → (D → ℕ → Image → Type 0) → Held D → List PutBack → Held D → Type 0
 Leaves size keeps reads may_hold did moment left_since old [] new = Untouched size keeps reads may_hold did old new

@@ -7,3 +7,4 @@ pub mod Stopped
 pub mod Calling
 pub mod Homes
 pub mod HomeLaws
+pub mod Stores

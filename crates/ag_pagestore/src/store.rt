@@ -1,8 +1,10 @@
 //! The pages of a disk as a home of images.
-ghost use Rattle.std.specs.Prelude.{◌≡◌, ◌≤◌, ℕ, IsTrue, true};
+ghost use Rattle.std.specs.Prelude.{◌≡◌, ◌≤◌, ℕ, IsTrue, true, refl};
+ghost use Rattle.std.proofs.Common.{◌∙◌};
 ghost use Rattle.ag_pagestore.specs.Places.{IsPage};
 ghost use Rattle.ag_pagestore.specs.Homes.{has_place, told_images, Leaves};
 ghost use Rattle.ag_pagestore.specs.HomeLaws.{untouched_itself, leave_both};
+ghost use Rattle.ag_pagestore.specs.Stores.{disk_of, held, IsOver, AreOverOne};
 
 use crate::batch::{PageWrite, write_batch};
 use crate::fault::{PageReadFault, PageWriteFault};
@@ -10,8 +12,8 @@ use crate::reading::read;
 use ag_outside::disk::Disk;
 use ag_page::{Got, HomeError, Image, PageHome};
 
-/// A disk that is lent, and how often the store was refused memory. It has the pages from 16 to 2,063, where the disk has
-/// 33,088 sectors.
+/// The pages of a disk that is lent, from 16 to 2,063. The disk needs 33,088 sectors.
+#[derive(Drop)]
 pub struct PageStore<'a, D: Disk> {
     disk: &'a mut D,
     refusals: u64,
@@ -20,23 +22,26 @@ pub struct PageStore<'a, D: Disk> {
 impl<'a, D: Disk> PageStore<'a, D> {
     /// The store over a disk.
     pub fn new(disk: &'a mut D) -> PageStore<'a, D>
-        ensures same_reference { result.disk.ghost_name ≡ disk.entry.ghost_name }
-        ensures refusals { result.refusals ≡ 0 }
+        ensures over { IsOver result disk.entry }
+        ensures disk { disk_of result ≡ disk.old }
+        ensures refusals { (held result).refusals ≡ 0 }
+        // It has each page, where the disk is large enough.
+        ensures pages { 33088 ≤ D.size disk.old → (page : ℕ) → IsPage page → has_place (D.size (disk_of result)) page ≡ true }
     {
         PageStore { disk, refusals: 0 }
     }
 }
 
 impl<'a, D: Disk> PageHome for PageStore<'a, D> {
-    ghost has_page = { λ s page. has_place (D.size s.disk.now) page };
+    ghost has_page = { λ s page. has_place (D.size (disk_of s)) page };
 
-    ghost told = { λ s. told_images (D.keeps s.disk.now) (D.reads s.disk.now) };
+    ghost told = { λ s. told_images (D.keeps (disk_of s)) (D.reads (disk_of s)) };
 
-    ghost faults = { λ s. D.faults s.disk.now };
+    ghost faults = { λ s. D.faults (disk_of s) };
 
-    ghost refusals = { λ s. s.refusals };
+    ghost refusals = { λ s. (held s).refusals };
 
-    ghost leaves = { λ a ws b. Leaves D.size D.keeps D.reads D.may_hold D.did D.moment D.left_since (record { disk = a.disk.now; refusals = a.refusals }) ws (record { disk = b.disk.now; refusals = b.refusals }) };
+    ghost leaves = { λ a ws b. AreOverOne a b × Leaves D.size D.keeps D.reads D.may_hold D.did D.moment D.left_since (held a) ws (held b) };
 
     fn fetch(&mut self, page: u16, into: &mut Image) -> Result<Got, HomeError> {
         match read(self.disk, page, into) {
@@ -66,7 +71,17 @@ impl<'a, D: Disk> PageHome for PageStore<'a, D> {
         }
     }
 
-    ghost leaves_itself = { λ a. untouched_itself D.size D.keeps D.reads D.may_hold D.did (record { disk = a.disk.now; refusals = a.refusals }) };
+    ghost leaves_itself = { λ a. (refl, untouched_itself D.size D.keeps D.reads D.may_hold D.did (held a)) };
 
-    ghost leaves_both = { λ a b c xs ys first then. leave_both D.size D.keeps D.reads D.may_hold D.did D.moment D.left_since xs ys (record { disk = a.disk.now; refusals = a.refusals }) (record { disk = b.disk.now; refusals = b.refusals }) (record { disk = c.disk.now; refusals = c.refusals }) first then };
+    ghost leaves_both = { λ a b c xs ys first then. (then.0 ∙ first.0, leave_both D.size D.keeps D.reads D.may_hold D.did D.moment D.left_since xs ys (held a) (held b) (held c) first.1 then.1) };
+}
+
+/// A page put back through a store over the disk that is lent.
+pub fn put_through<D: Disk>(disk: &mut D, page: u16, image: &Image) -> Result<(), HomeError>
+    requires page { IsPage page }
+    requires places { 33088 ≤ D.size disk.old }
+    ensures faults { D.faults disk.old ≤ D.faults disk.new }
+{
+    let mut store = PageStore::new(disk);
+    store.put_back(page, image)
 }

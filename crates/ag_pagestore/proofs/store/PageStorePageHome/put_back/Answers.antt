@@ -22,7 +22,7 @@ returns-in-Ok-clause-leaves g c =
     let did = c.write_batch.ensures in
     let before : Held g.row.D.Denot = record { disk = d; refusals = c.args.self.now.refusals } in
     let after : Held g.row.D.Denot = record { disk = new; refusals = c.args.self.now.refusals } in
-    (
+    (refl, (
       before,
       after,
       untouched_itself g.D.Disk.size g.D.Disk.keeps g.D.Disk.reads g.D.Disk.may_hold g.D.Disk.did before,
@@ -37,7 +37,7 @@ returns-in-Ok-clause-leaves g c =
         any_moment = did.any_moment;
       },
       untouched_itself g.D.Disk.size g.D.Disk.keeps g.D.Disk.reads g.D.Disk.may_hold g.D.Disk.did after,
-    )
+    ))
 
 pub returns-in-Err-DiskFault-clause-leaves : goal.returns-in-Err-DiskFault-clause-leaves
 returns-in-Err-DiskFault-clause-leaves g c =
@@ -46,7 +46,7 @@ returns-in-Err-DiskFault-clause-leaves g c =
     let did = c.write_batch.ensures in
     let before : Held g.row.D.Denot = record { disk = d; refusals = c.args.self.now.refusals } in
     let after : Held g.row.D.Denot = record { disk = new; refusals = c.args.self.now.refusals } in
-    (
+    (refl, (
       before,
       after,
       untouched_itself g.D.Disk.size g.D.Disk.keeps g.D.Disk.reads g.D.Disk.may_hold g.D.Disk.did before,
@@ -61,7 +61,7 @@ returns-in-Err-DiskFault-clause-leaves g c =
         any_moment = did.any_moment;
       },
       untouched_itself g.D.Disk.size g.D.Disk.keeps g.D.Disk.reads g.D.Disk.may_hold g.D.Disk.did after,
-    )
+    ))
 
 pub returns-in-Err-NoMemory-clause-leaves : goal.returns-in-Err-NoMemory-clause-leaves
 returns-in-Err-NoMemory-clause-leaves g c =
@@ -70,7 +70,7 @@ returns-in-Err-NoMemory-clause-leaves g c =
     let did = c.write_batch.ensures in
     let before : Held g.row.D.Denot = record { disk = d; refusals = c.args.self.now.refusals } in
     let after : Held g.row.D.Denot = record { disk = new; refusals = c.saturating_add-self.result } in
-    (
+    (refl, (
       before,
       after,
       untouched_itself g.D.Disk.size g.D.Disk.keeps g.D.Disk.reads g.D.Disk.may_hold g.D.Disk.did before,
@@ -85,4 +85,4 @@ returns-in-Err-NoMemory-clause-leaves g c =
         any_moment = did.any_moment;
       },
       untouched_itself g.D.Disk.size g.D.Disk.keeps g.D.Disk.reads g.D.Disk.may_hold g.D.Disk.did after,
-    )
+    ))
