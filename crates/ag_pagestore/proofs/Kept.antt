@@ -121,13 +121,13 @@ page_kept old new mask n w whole each =
     let cs = page_cells old w.page in
     let m = mark_after cs in
     let own : (k : ℕ) → k < 16 → cell_of (Some (get_or (marked old w) k [])) ≡ Mark m = λ k lt.
-        ap cell_of (sym (get_or-map (λ s. Some s) (marked old w) k [] None (omega (arith, length-marked old w whole)))) ∙ mark_at m (readable (marked old w)) k (all_marked m w.image whole.1) (omega (arith, length-marked old w whole, length-map (marked old w) (λ s. Some s))) in
+    ap cell_of (sym (get_or-map (λ s. Some s) (marked old w) k [] None (omega (arith, length-marked old w whole)))) ∙ mark_at m (readable (marked old w)) k (all_marked m w.image whole.1) (omega (arith, length-marked old w whole, length-map (marked old w) (λ s. Some s))) in
     ext_get_or Lost (page_cells new w.page) (kept_cells mask n m cs) (length-cells new w.page ∙ sym (length-cells old w.page) ∙ sym (length-kept mask n m cs)) (λ k below.
-      let lt : k < 16 = omega (arith, below, length-cells new w.page) in
-      cell_at new w.page k lt ∙ ap cell_of (each k lt) ∙ cell-cond (is_kept mask (n + k)) (Some (get_or (marked old w) k [])) (old (place w.page + k))
-      ∙ ap (λ (c : Cell). cond (is_kept mask (n + k)) c (cell_of (old (place w.page + k)))) (own k lt)
-      ∙ ap (cond (is_kept mask (n + k)) (Mark m)) (sym (cell_at old w.page k lt))
-      ∙ sym (get_or-kept mask n m cs k (omega (arith, lt, length-cells old w.page))))
+    let lt : k < 16 = omega (arith, below, length-cells new w.page) in
+    cell_at new w.page k lt ∙ ap cell_of (each k lt) ∙ cell-cond (is_kept mask (n + k)) (Some (get_or (marked old w) k [])) (old (place w.page + k))
+    ∙ ap (λ (c : Cell). cond (is_kept mask (n + k)) c (cell_of (old (place w.page + k)))) (own k lt)
+    ∙ ap (cond (is_kept mask (n + k)) (Mark m)) (sym (cell_at old w.page k lt))
+    ∙ sym (get_or-kept mask n m cs k (omega (arith, lt, length-cells old w.page))))
 
 pub pages_kept : (old now : Image) (mask n low : ℕ) (ws : List PageWrite) → RisesFrom low ws → AllByRecursion IsWhole ws → ((at : ℕ) → place low ≤ at → now at ≡ old at) → AreKept old (put_all now (kept mask n (written old ws))) mask n ws
 pages_kept old now mask n low [] rises whole same = tt
@@ -136,17 +136,16 @@ pages_kept old now mask n low (w ∷ ws) rises whole same =
     let long = length-marked old w whole.0 in
     let mid = put_all now (kept mask n (writes (place w.page) (marked old w))) in
     let both : put_all now (kept mask n (written old (w ∷ ws))) ≡ put_all mid (kept mask (n + 16) (written old ws)) =
-        ap (put_all now) (kept_run-append mask n (place w.page) (marked old w) (written old ws))
-        ∙ put_all-append now (kept mask n (writes (place w.page) (marked old w))) (kept mask (n + length (marked old w)) (written old ws))
-        ∙ ap (λ (j : ℕ). put_all mid (kept mask (n + j) (written old ws))) long in
-    (
+    ap (put_all now) (kept_run-append mask n (place w.page) (marked old w) (written old ws))
+    ∙ put_all-append now (kept mask n (writes (place w.page) (marked old w))) (kept mask (n + length (marked old w)) (written old ws))
+    ∙ ap (λ (j : ℕ). put_all mid (kept mask (n + j) (written old ws))) long in (
       page_kept old (put_all now (kept mask n (written old (w ∷ ws)))) mask n w whole.0 (λ k lt.
-        ap (λ (im : Image). im (place w.page + k)) both
-        ∙ outside_kept old mid mask (n + 16) ws (place w.page + k) whole.1 (below_outside (suc w.page) (place w.page + k) ws rises.2 (omega arith))
-        ∙ kept_within now mask n (place w.page) (marked old w) k (omega (arith, long))
-        ∙ ap (cond (is_kept mask (n + k)) (Some (get_or (marked old w) k []))) (same (place w.page + k) (omega (arith, above)))),
+          ap (λ (im : Image). im (place w.page + k)) both
+          ∙ outside_kept old mid mask (n + 16) ws (place w.page + k) whole.1 (below_outside (suc w.page) (place w.page + k) ws rises.2 (omega arith))
+          ∙ kept_within now mask n (place w.page) (marked old w) k (omega (arith, long))
+          ∙ ap (cond (is_kept mask (n + k)) (Some (get_or (marked old w) k []))) (same (place w.page + k) (omega (arith, above)))),
       subst (λ (im : Image). AreKept old im mask (n + 16) ws) (sym both) (pages_kept old mid mask (n + 16) (suc w.page) ws rises.2 whole.1 (λ at le.
-        kept_outside now mask n (place w.page) (marked old w) at (inr (omega (arith, long, le))) ∙ same at (omega (arith, above, le)))),
+          kept_outside now mask n (place w.page) (marked old w) at (inr (omega (arith, long, le))) ∙ same at (omega (arith, above, le)))),
     )
 
 -- the cells of a page that is written whole

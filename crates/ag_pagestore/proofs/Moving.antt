@@ -63,4 +63,4 @@ pub part_pages : (hold : ℕ → Content → Type 0) (disk : Image) (batch : Lis
 part_pages hold disk batch rises only image p =
     let all : take p.begun batch ++ drop p.begun batch ≡ batch = take-append-drop p.begun batch in
     subst (λ (ws : List PageWrite). IsOldOrNew disk ws image) all
-      (disk_left disk image (take p.begun batch) (drop p.begun batch) (subst (RisesFrom 16) (sym all) rises) p.whole (λ at. elim (p.each at) [ inl was ↦ inl (only at (image at) was) | inr wrote ↦ inr wrote ]))
+    (disk_left disk image (take p.begun batch) (drop p.begun batch) (subst (RisesFrom 16) (sym all) rises) p.whole (λ at. elim (p.each at) [ inl was ↦ inl (only at (image at) was) | inr wrote ↦ inr wrote ]))

@@ -45,11 +45,10 @@ pages_written old now low (w ∷ ws) rises whole =
     let mid = put_all now (writes (place w.page) (marked old w)) in
     let both = put_all-append now (writes (place w.page) (marked old w)) (written old ws) in
     let stays : (k : ℕ) → k < 16 → put_all now (written old (w ∷ ws)) (place w.page + k) ≡ get_or (readable (marked old w)) k None = λ k lt.
-        ap (λ (im : Image). im (place w.page + k)) both
-        ∙ outside_stays old mid ws (place w.page + k) whole.1 (below_outside (suc w.page) (place w.page + k) ws rises.2 (omega arith))
-        ∙ put_within now (place w.page) (marked old w) k (omega (arith, length-marked old w whole.0))
-        ∙ sym (get_or-map (λ s. Some s) (marked old w) k [] None (omega (arith, length-marked old w whole.0))) in
-    (
+    ap (λ (im : Image). im (place w.page + k)) both
+    ∙ outside_stays old mid ws (place w.page + k) whole.1 (below_outside (suc w.page) (place w.page + k) ws rises.2 (omega arith))
+    ∙ put_within now (place w.page) (marked old w) k (omega (arith, length-marked old w whole.0))
+    ∙ sym (get_or-map (λ s. Some s) (marked old w) k [] None (omega (arith, length-marked old w whole.0))) in (
       image_is (put_all now (written old (w ∷ ws))) w.page (readable (marked old w)) (length-map (marked old w) _ ∙ length-marked old w whole.0) stays,
       subst (λ (im : Image). AllByRecursion (λ x. image_of im x.page ≡ readable (marked old x)) ws) (sym both) (pages_written old mid (suc w.page) ws rises.2 whole.1),
     )
@@ -90,16 +89,15 @@ pages_left old image low [] ys rises whole each = pages_same old image low ys ri
 pages_left old image low (x ∷ xs) ys rises whole each =
     let above = rises.0 in
     let own : (k : ℕ) → k < 16 → (get_or (image_of image x.page) k None ≡ get_or (image_of old x.page) k None) ⊎ (get_or (image_of image x.page) k None ≡ get_or (readable (marked old x)) k None) = λ k lt.
-        elim (each (place x.page + k) (omega (arith, above))) [
-          | inl was ↦ inl (at_place image x.page k lt ∙ was ∙ sym (at_place old x.page k lt))
-          | inr wrote ↦ elim (wrote-split (writes (place x.page) (marked old x)) (written old xs) (place x.page + k) (image (place x.page + k)) wrote) [
-            | inl here ↦ inr (at_place image x.page k lt ∙ (in_run (place x.page) (marked old x) (place x.page + k) (image (place x.page + k)) here).is k refl ∙ sym (get_or-map (λ s. Some s) (marked old x) k [] None (omega (arith, length-marked old x whole.0))))
-            | inr later ↦ absurd (let from = wrote_above old (suc x.page) xs ys (place x.page + k) (image (place x.page + k)) rises.2 whole.1 later in omega (arith, from, lt))
-          ]
-        ] in
-    (
+    elim (each (place x.page + k) (omega (arith, above))) [
+      | inl was ↦ inl (at_place image x.page k lt ∙ was ∙ sym (at_place old x.page k lt))
+      | inr wrote ↦ elim (wrote-split (writes (place x.page) (marked old x)) (written old xs) (place x.page + k) (image (place x.page + k)) wrote) [
+        | inl here ↦ inr (at_place image x.page k lt ∙ (in_run (place x.page) (marked old x) (place x.page + k) (image (place x.page + k)) here).is k refl ∙ sym (get_or-map (λ s. Some s) (marked old x) k [] None (omega (arith, length-marked old x whole.0))))
+        | inr later ↦ absurd (let from = wrote_above old (suc x.page) xs ys (place x.page + k) (image (place x.page + k)) rises.2 whole.1 later in omega (arith, from, lt))
+      ]
+    ] in (
       page_left (image_of old x.page) (image_of image x.page) x.image (image-long old x.page) whole.0.1
-        (mixed_from (image_of old x.page) (written_over (image_of old x.page) x.image) (image_of image x.page) (image-long old x.page ∙ sym (image-long image x.page)) (length-over (image_of old x.page) x whole.0 ∙ sym (image-long image x.page)) (λ k lt. own k (omega (arith, lt, image-long image x.page)))),
+          (mixed_from (image_of old x.page) (written_over (image_of old x.page) x.image) (image_of image x.page) (image-long old x.page ∙ sym (image-long image x.page)) (length-over (image_of old x.page) x whole.0 ∙ sym (image-long image x.page)) (λ k lt. own k (omega (arith, lt, image-long image x.page)))),
       pages_left old image (suc x.page) xs ys rises.2 whole.1 (λ at le. elim (each at (omega (arith, above, le))) [
         | inl was ↦ inl was
         | inr wrote ↦ elim (wrote-split (writes (place x.page) (marked old x)) (written old xs) at (image at) wrote) [

@@ -90,7 +90,7 @@ module _ (disk : Image) (batch : List PageWrite) (i : ℕ) (d : PageWrite) (lt :
       pub calls_more : did mid (Write_call first image (Ok (record {}))) new → Leads did old (went (pieces disk (take (i + 1) batch))) new
       calls_more call =
           subst (λ (calls : List Call). Leads did old calls new) (sym (ap went pieces_more ∙ map-append (λ (p : Piece). Write_call p.first p.sectors (Ok (record {}))) (pieces disk (take i batch)) (piece disk here ∷ [])))
-            (leads_on did (went (pieces disk (take i batch))) (Write_call (place here.page) (marked disk here) (Ok (record {}))) old mid new before (subst (λ (x : Call). did mid x new) (call_is (Ok (record {}))) call))
+          (leads_on did (went (pieces disk (take i batch))) (Write_call (place here.page) (marked disk here) (Ok (record {}))) old mid new before (subst (λ (x : Call). did mid x new) (call_is (Ok (record {}))) call))
 
       pub broken_at : did mid (Write_call first image (Err Failed)) new → WritesUntilFault did old (pieces disk batch) new
       broken_at call = record {

@@ -48,9 +48,9 @@ pub sector_more : (disk : Image) (first i : ℕ) (cells : List Cell) (cell : Cel
     → (k : ℕ) → k < i + 1 → IsSector (disk (first + k)) (get_or (set cells i cell) k Lost) (get_or (set image i bytes) k [])
 sector_more disk first i cells cell image bytes lt within before here k below = elim (cases_eq k i) [
   | inl is ↦ subst (λ (c : Cell). IsSector (disk (first + k)) c (get_or (set image i bytes) k [])) (sym (ap (λ (j : ℕ). get_or (set cells i cell) j Lost) is ∙ get_or-set_same cells i cell Lost lt))
-    (subst (λ (b : List ℕ). IsSector (disk (first + k)) cell b) (sym (ap (λ (j : ℕ). get_or (set image i bytes) j []) is ∙ get_or-set_same image i bytes [] within)) (subst (λ (j : ℕ). IsSector (disk (first + j)) cell bytes) (sym is) here))
+      (subst (λ (b : List ℕ). IsSector (disk (first + k)) cell b) (sym (ap (λ (j : ℕ). get_or (set image i bytes) j []) is ∙ get_or-set_same image i bytes [] within)) (subst (λ (j : ℕ). IsSector (disk (first + j)) cell bytes) (sym is) here))
   | inr apart ↦ subst (λ (c : Cell). IsSector (disk (first + k)) c (get_or (set image i bytes) k [])) (sym (get_or-set_other cells i k cell Lost apart))
-    (subst (λ (b : List ℕ). IsSector (disk (first + k)) (get_or cells k Lost) b) (sym (get_or-set_other image i k bytes [] apart)) (before k (omega arith)))
+      (subst (λ (b : List ℕ). IsSector (disk (first + k)) (get_or cells k Lost) b) (sym (get_or-set_other image i k bytes [] apart)) (before k (omega arith)))
 ]
 
 -- time that goes on twice, the second time with the same images

@@ -21,7 +21,7 @@ with_page_is old new page image written =
     let same : (q : ℕ) → image_of new q ≡ with_page (image_of old) page image q = λ q. elim (eqb_tells q page) [
       | inl here ↦ ap (image_of new) here.1 ∙ written.pages.0 ∙ sym (ap (λ (b : Bool). cond b (written_over (image_of old page) image) (image_of old q)) here.0)
       | inr other ↦ image_is new q (image_of old q) (image-long old q) (λ k lt. written.others (place q + k) (other_outside page q k lt other.1, tt) ∙ sym (at_place old q k lt))
-        ∙ sym (ap (λ (b : Bool). cond b (written_over (image_of old page) image) (image_of old q)) other.0)
+          ∙ sym (ap (λ (b : Bool). cond b (written_over (image_of old page) image) (image_of old q)) other.0)
     ] in
     λ i q. same q i
 

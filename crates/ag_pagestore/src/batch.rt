@@ -67,11 +67,7 @@ fn next_mark<D: Disk>(disk: &mut D, page: u16) -> Result<u8, DiskError>
 }
 
 /// Writes each page with its mark.
-fn write_pages<D: Disk>(
-    disk: &mut D,
-    pages: &[PageWrite],
-    marks: &[u8; 8],
-) -> Result<(), DiskError>
+fn write_pages<D: Disk>(disk: &mut D, pages: &[PageWrite], marks: &[u8; 8]) -> Result<(), DiskError>
     requires few { length pages.now ≤ 8 }
     requires rises { RisesFrom 16 pages.now }
     requires places { 33088 ≤ D.size disk.old }

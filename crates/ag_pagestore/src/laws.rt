@@ -25,8 +25,7 @@ pub fn batches()
         AreKept disk (put_all disk (kept mask from (written disk batch))) mask from batch }
     ensures others { (disk : Image) (batch : List PageWrite) (mask from at : ℕ) → AllByRecursion IsWhole batch → AllByRecursion (λ w. IsOutside w.page at) batch →
         put_all disk (kept mask from (written disk batch)) at ≡ disk at }
-{
-}
+{}
 
 /// What writings through a page store do to its disk. Whether the disk keeps to the model and its size stay. Where nothing
 /// was unsynced and no call was refused, each sector outside the pages has what it had, and nothing is unsynced.
@@ -37,5 +36,4 @@ pub fn writings<D: Disk>()
         IsTrue (D.keeps old.disk) → Only (D.reads old.disk) (D.may_hold old.disk) → AllByRecursion (λ w. w.refused ≡ false) ws → Only (D.reads new.disk) (D.may_hold new.disk) }
     ensures outside { (old new : Held D) (ws : List PutBack) (at : ℕ) → Leaves D.size D.keeps D.reads D.may_hold D.did D.moment D.left_since old ws new →
         IsTrue (D.keeps old.disk) → Only (D.reads old.disk) (D.may_hold old.disk) → LastMayBeRefused ws → AllByRecursion (λ w. IsOutside w.page at) ws → D.reads new.disk at ≡ D.reads old.disk at }
-{
-}
+{}

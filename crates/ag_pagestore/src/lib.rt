@@ -13,3 +13,6 @@ pub use batch::{PageWrite, write_batch};
 pub use fault::{PageReadFault, PageWriteFault};
 pub use reading::read;
 pub use store::PageStore;
+
+#[cfg(test)]
+mod tests;

@@ -75,13 +75,3 @@ impl<'a, D: Disk> PageHome for PageStore<'a, D> {
 
     ghost leaves_both = { λ a b c xs ys first then. (then.0 ∙ first.0, leave_both D.size D.keeps D.reads D.may_hold D.did D.moment D.left_since xs ys (held a) (held b) (held c) first.1 then.1) };
 }
-
-/// A page put back through a store over the disk that is lent.
-pub fn put_through<D: Disk>(disk: &mut D, page: u16, image: &Image) -> Result<(), HomeError>
-    requires page { IsPage page }
-    requires places { 33088 ≤ D.size disk.old }
-    ensures faults { D.faults disk.old ≤ D.faults disk.new }
-{
-    let mut store = PageStore::new(disk);
-    store.put_back(page, image)
-}

@@ -35,7 +35,7 @@ loop-i-preserved g c =
     record {
       whole = length-set c.loop-i.marks c.loop-i.i c.in_ok-marks.field-0 ∙ so_far.whole;
       next = λ keeps. next_more (g.D.Disk.reads d) c.args.pages.now c.loop-i.marks c.loop-i.i c.in_ok-marks.field-0 none (omega arith) (omega (arith, so_far.whole, c.requires.few)) (so_far.next keeps)
-        (did.mark (subst IsTrue (sym so_far.keeps) keeps) ∙ ap (λ (im : Image). mark_after (page_cells im (get_or c.args.pages.now c.loop-i.i none).page)) so_far.reads);
+          (did.mark (subst IsTrue (sym so_far.keeps) keeps) ∙ ap (λ (im : Image). mark_after (page_cells im (get_or c.args.pages.now c.loop-i.i none).page)) so_far.reads);
       calls = reads_both g.D.Disk.did d mid so_far.calls new (did.calls);
       reads = did.reads ∙ so_far.reads;
       crash = same_images (g.D.Disk.may_hold d) (g.D.Disk.may_hold mid) (g.D.Disk.may_hold new) so_far.crash did.crash;

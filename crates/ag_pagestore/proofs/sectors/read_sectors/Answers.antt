@@ -30,7 +30,7 @@ loop-i-preserved g c =
       cells_whole = length-set c.loop-i.cells c.loop-i.i c.in_ok-cells.field-0 ∙ so_far.cells_whole;
       image_whole = length-set c.loop-i.into c.loop-i.i _ ∙ so_far.image_whole;
       found = λ keeps. sector_more (g.D.Disk.reads d) c.place-first.result c.loop-i.i c.loop-i.cells c.in_ok-cells.field-0 c.loop-i.into _ (omega arith) (omega arith) (so_far.found keeps)
-        (subst (λ (im : Image). IsSector (im (c.place-first.result + c.loop-i.i)) c.in_ok-cells.field-0 c.read_sector.new.into) so_far.reads (did.found (subst IsTrue (sym so_far.keeps) keeps)));
+          (subst (λ (im : Image). IsSector (im (c.place-first.result + c.loop-i.i)) c.in_ok-cells.field-0 c.read_sector.new.into) so_far.reads (did.found (subst IsTrue (sym so_far.keeps) keeps)));
       calls = reads_both g.D.Disk.did d mid so_far.calls new (did.calls);
       reads = did.reads ∙ so_far.reads;
       crash = same_images (g.D.Disk.may_hold d) (g.D.Disk.may_hold mid) (g.D.Disk.may_hold new) so_far.crash did.crash;
