@@ -137,6 +137,5 @@ pub fn write_batch<D: Disk>(disk: &mut D, pages: &[PageWrite]) -> Result<(), Pag
     ensures keeps { D.keeps disk.new ≡ D.keeps disk.old }
     ensures traced { D.traced disk.new ≡ D.traced disk.old }
 {
-    write_and_sync(disk, pages)?;
-    Ok(())
+    Ok(write_and_sync(disk, pages)?)
 }

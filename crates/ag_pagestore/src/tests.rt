@@ -13,6 +13,12 @@ use ag_page::{Got, HomeError, Image, PageHome, fits, to_image};
 use std::alloc::Global;
 use std::test::Fail;
 
+/// The first 51 bytes of page 21 after a Put of key 5 at LSN 2 and its Commit at LSN 3.
+const FRONT: [u8; 51] = [
+    0, 0x15, 0, 1, 0, 0, 0, 0, 0, 0, 0, 3, 0, 0, 0, 0, 0, 0, 0, 0, 0, 0, 0, 0, 0, 0, 0, 0, 0, 0, 0,
+    0, 0, 0, 0, 0, 0, 0, 0, 2, 0, 0, 0, 0, 0, 0, 0, 1, 0, 0, 0,
+];
+
 /// An image of one byte, with the number of a page in front.
 fn image(page: u8, byte: u8) -> Image {
     let mut image = [[byte; 512]; 16];
@@ -110,11 +116,9 @@ fn a_page_value_is_written(rt: HostRuntime) -> Result<(), Fail> {
     assert_eq!(rt; write_batch(&mut disk, &[write]), Ok(()));
     let mut sector = [9; 512];
     assert_eq!(rt; disk.read(400, &mut sector), Ok(Found::Bytes));
-    let front = [
-        0, 0x15, 0, 1, 0, 0, 0, 0, 0, 0, 0, 3, 0, 0, 0, 0, 0, 0, 0, 0, 0, 0, 0, 0, 0, 0, 0, 0, 0,
-        0, 0, 0, 0, 0, 0, 0, 0, 0, 0, 2, 0, 0, 0, 0, 0, 0, 0, 1, 0, 0, 0,
-    ];
-    assert_eq!(rt; &sector[..51], front.as_slice());
+    for (byte, want) in sector.iter().zip(&FRONT) {
+        assert_eq!(rt; *byte, *want);
+    }
     assert_eq!(rt; marks(&mut disk, 21), [Some(1); 16]);
     assert_eq!(rt; marks(&mut disk, 20), [Some(0); 16]);
     assert_eq!(rt; marks(&mut disk, 22), [Some(0); 16]);
