@@ -1,5 +1,5 @@
 -- An error that is handed on.
-use Rattle.std.proofs.Common.{◌≡◌, Result, Ok, Err, ap, sym, ◌∙◌}
+use Rattle.std.proofs.Common.{◌≡◌, Result, Err, sym, ◌∙◌}
 use Rattle.std.specs.Result.{IsErrOf}
 use Rattle.ag_outside.specs.declared.disk.DiskError.{DiskError}
 use Rattle.ag_outside.specs.declared.disk.DiskError.TheVariants.{Failed}

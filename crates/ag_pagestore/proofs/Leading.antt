@@ -1,10 +1,10 @@
 -- Calls of a disk, one after the other.
-use Rattle.std.proofs.Common.{◌≡◌, ◌⊎◌, ℕ, List, [], ◌∷◌, ◌++◌, Result, Ok, Err, map, refl, sym, ap, ◌∙◌, inl, inr, subst, append_assoc}
+use Rattle.std.proofs.Common.{◌≡◌, ℕ, List, [], ◌∷◌, ◌++◌, Result, Ok, Err, refl, sym, ap, ◌∙◌, inl, inr, subst, append_assoc}
 use Rattle.ag_outside.specs.declared.disk.Found.{Found}
 use Rattle.ag_outside.specs.declared.disk.DiskError.{DiskError}
 use Rattle.ag_outside.specs.declared.disk.DiskError.TheVariants.{Failed}
-use Rattle.ag_outside.specs.Calls.{Call, Write_call, Read_call, Sync_call, Leads, changing, Piece, all_went, BreaksOff, FailsAtRead, TakesAll, FailsOnTheWay, IsReadOnly}
-use Rattle.ag_pagestore.specs.Calling.{leads_both, leads_on, after_reads, reads_both}
+use Rattle.ag_outside.specs.Calls.{Call, Write_call, Read_call, Sync_call, Leads, changing, Piece, all_went, BreaksOff, TakesAll, FailsOnTheWay, IsReadOnly}
+use Rattle.ag_pagestore.specs.Calling.{leads_both, leads_on, after_reads}
 use Rattle.ag_pagestore.specs.Batches.{went, WritesUntilFault}
 use Rattle.ag_pagestore.specs.Found.{ReadsUntilFault}
 

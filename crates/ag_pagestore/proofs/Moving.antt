@@ -1,5 +1,5 @@
 -- What a crash leaves at the moments of a batch.
-use Rattle.std.proofs.Common.{◌≡◌, ◌⊎◌, ◌≤◌, ℕ, List, [], ◌∷◌, ◌++◌, length, take, drop, Bool, IsTrue, ⊎_elim, subst, sym, ap, arith, inl, inr}
+use Rattle.std.proofs.Common.{◌≡◌, ℕ, List, [], ◌++◌, length, take, drop, Bool, ⊎_elim, subst, sym, arith, inl, inr}
 use Rattle.std.specs.List.{AllByRecursion}
 use Rattle.std.proofs.lemmas.List.{take_all, take-append-drop}
 use Rattle.ag_outside.specs.Disks.{Content, Image, IsImage, SameImages, MayAdd, WroteSo, Only, Elapses}

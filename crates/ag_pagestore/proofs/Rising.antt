@@ -1,12 +1,12 @@
 -- Pages that rise, and what is written of the first of them.
-use Rattle.std.proofs.Common.{◌≡◌, ◌⊎◌, ◌+◌, ◌*◌, ◌<◌, ◌≤◌, ℕ, suc, zero, List, [], ◌∷◌, ◌++◌, length, get_or, set, map, take, drop, Result, Ok, Err, append_assoc, refl, sym, ap, ◌∙◌, arith, inl, inr, subst}
-use Rattle.std.specs.List.{flat_map, AllByRecursion}
-use Rattle.std.proofs.lemmas.List.{take_more, take_all, append-nil, take-append-drop, map-append, get_or-set_same, get_or-set_other}
+use Rattle.std.proofs.Common.{◌≡◌, ◌+◌, ◌<◌, ◌≤◌, ℕ, suc, zero, List, [], ◌∷◌, ◌++◌, length, get_or, set, take, drop, Result, Ok, Err, append_assoc, refl, sym, ap, ◌∙◌, arith, inl, inr, subst}
+use Rattle.std.specs.List.{AllByRecursion}
+use Rattle.std.proofs.lemmas.List.{take_more, append-nil, take-append-drop, map-append, get_or-set_same, get_or-set_other}
 use Rattle.std.proofs.lemmas.List.Concat.{flat_map-append}
 use Rattle.std.proofs.lemmas.Bool.{cases_eq}
 use Rattle.ag_model.specs.Cells.{mark_after}
 use Rattle.ag_outside.specs.declared.disk.SectorWrite.{SectorWrite}
-use Rattle.ag_outside.specs.Disks.{Content, Image, writes, put_all, WroteSo, MayAdd, IsImage}
+use Rattle.ag_outside.specs.Disks.{Content, Image, writes, put_all, MayAdd, IsImage}
 use Rattle.ag_outside.specs.declared.disk.DiskError.{DiskError}
 use Rattle.ag_outside.specs.declared.disk.DiskError.TheVariants.{Failed}
 use Rattle.ag_outside.specs.Calls.{Call, Write_call, Piece, Leads}

@@ -1,6 +1,5 @@
 -- Sectors that are written in a run.
-use Rattle.std.proofs.Common.{◌≡◌, ◌⊎◌, ◌+◌, ◌-◌, ◌<◌, ◌≤◌, ℕ, zero, suc, List, [], ◌∷◌, length, get_or, Some, None, refl, sym, ap, ◌∙◌, arith, inl, inr, subst}
-use Rattle.ag_outside.specs.declared.disk.SectorWrite.{SectorWrite}
+use Rattle.std.proofs.Common.{◌≡◌, ◌⊎◌, ◌+◌, ◌<◌, ◌≤◌, ℕ, zero, suc, List, [], ◌∷◌, length, get_or, Some, refl, sym, ap, ◌∙◌, arith, inl, inr}
 use Rattle.ag_outside.specs.Disks.{Content, Image, put, put_all, writes, WroteSo}
 use Rattle.ag_outside.proofs.Past.{put-at, put-apart}
 

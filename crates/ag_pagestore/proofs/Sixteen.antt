@@ -1,13 +1,12 @@
 -- Sectors that are read one by one.
-use Rattle.std.proofs.Common.{◌≡◌, ◌⊎◌, ◌+◌, ◌<◌, ◌≤◌, ℕ, suc, zero, List, [], ◌∷◌, length, get_or, set, map, Option, Some, None, Bool, true, false, IsTrue, refl, sym, ap, ◌∙◌, arith, inl, inr, subst}
-use Rattle.std.specs.List.{range_with_len, list_any}
+use Rattle.std.proofs.Common.{◌≡◌, ◌+◌, ◌<◌, ℕ, suc, zero, List, [], ◌∷◌, length, get_or, set, Some, None, Bool, true, false, IsTrue, refl, sym, ap, ◌∙◌, arith, inl, inr, subst}
 use Rattle.std.proofs.lemmas.List.{ext_get_or, get_or-map, length-map, get_or-set_same, get_or-set_other}
 use Rattle.std.proofs.lemmas.Bool.{cases_eq}
 use Rattle.std.proofs.lemmas.List.FromFn.{get_or-map-range_with_len, length-map-range_with_len}
 use Rattle.ag_model.specs.declared.answer.Cell.{Cell}
 use Rattle.ag_model.specs.declared.answer.Cell.TheVariants.{Mark, Lost}
-use Rattle.ag_model.specs.Cells.{is_lost, has_lost}
-use Rattle.ag_outside.specs.Disks.{Content, Image, SameImages, Elapses, IsImage}
+use Rattle.ag_model.specs.Cells.{has_lost}
+use Rattle.ag_outside.specs.Disks.{Content, Image, SameImages, Elapses}
 use Rattle.ag_page.specs.Home.{cell_of, cells_of, readable}
 use Rattle.ag_pagestore.specs.Places.{place, image_of}
 use Rattle.ag_pagestore.specs.Found.{IsSector, IsFound}

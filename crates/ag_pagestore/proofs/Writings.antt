@@ -1,11 +1,11 @@
 -- What writings do to a disk.
-use Rattle.std.proofs.Common.{◌≡◌, ℕ, List, [], ◌∷◌, Bool, true, false, IsTrue, sym, ap, ◌∙◌, subst}
+use Rattle.std.proofs.Common.{◌≡◌, ℕ, List, [], ◌∷◌, Bool, false, IsTrue, sym, ap, ◌∙◌, subst}
 use Rattle.std.specs.List.{AllByRecursion}
 use Rattle.ag_outside.specs.Calls.{Call}
 use Rattle.ag_outside.specs.Disks.{Content, Image, SameImages, Only}
 use Rattle.ag_page.specs.Home.{PutBack}
 use Rattle.ag_pagestore.specs.Places.{IsOutside}
-use Rattle.ag_pagestore.specs.Homes.{Held, Untouched, Took, Leaves, LastMayBeRefused}
+use Rattle.ag_pagestore.specs.Homes.{Held, Leaves, LastMayBeRefused}
 
 only_on : (a b : Image) (hold next : ℕ → Content → Type 0) → b ≡ a → SameImages hold next → Only a hold → Only b next
 only_on a b hold next is same only at content may = only at content ((same at content).0 may) ∙ ap (λ (im : Image). im at) (sym is)

@@ -1,11 +1,11 @@
 -- What a page store leaves goes on from one step to the next.
-use Rattle.std.specs.Prelude.{◌≡◌, ℕ, List, [], ◌∷◌, ◌++◌, Bool, refl}
+use Rattle.std.specs.Prelude.{ℕ, List, [], ◌∷◌, ◌++◌, Bool, refl}
 use Rattle.std.proofs.Common.{◌∙◌}
 use Rattle.ag_outside.specs.Calls.{Call}
 use Rattle.ag_outside.specs.Disks.{Content, Image}
 use Rattle.ag_page.specs.Home.{PutBack}
 use Rattle.ag_pagestore.specs.Calling.{reads_none, reads_both, same_images, same_itself}
-use Rattle.ag_pagestore.specs.Homes.{Held, Untouched, Took, Leaves}
+use Rattle.ag_pagestore.specs.Homes.{Held, Untouched, Leaves}
 
 module _ {D : Type 0} (size : D → ℕ) (keeps : D → Bool) (reads : D → Image) (may_hold : D → ℕ → Content → Type 0) (did : D → Call → D → Type 0) where
   -- no call

@@ -1,5 +1,5 @@
 -- What is seen of a page store.
-use Rattle.std.specs.Prelude.{◌≡◌, ◌^◌, ◌<◌, ℕ}
+use Rattle.std.specs.Prelude.{◌≡◌}
 use Rattle.std.specs.Borrow.{MutBor}
 use Rattle.ag_pagestore.specs.declared.store.PageStore.{PageStore}
 use Rattle.ag_pagestore.specs.Homes.{Held}

@@ -1,4 +1,4 @@
-use Rattle.std.proofs.Common.{◌≡◌, ◌+◌, ℕ, get_or, IsTrue, [], ap, sym, ◌∙◌, subst, Err, arith}
+use Rattle.std.proofs.Common.{get_or, IsTrue, [], ap, sym, ◌∙◌, subst, Err, arith}
 use Rattle.std.proofs.lemmas.Result.{err_from_is_err_and}
 use Rattle.std.proofs.lemmas.List.{length-set}
 use Rattle.ag_outside.specs.declared.disk.DiskError.{DiskError}

@@ -1,4 +1,4 @@
-use Rattle.std.proofs.Common.{◌≡◌, ◌+◌, ◌<◌, ◌≤◌, ℕ, [], length, get_or, IsTrue}
+use Rattle.std.proofs.Common.{◌≡◌, ◌<◌, ◌≤◌, ℕ, length, get_or, IsTrue}
 use Rattle.ag_model.specs.Cells.{mark_after}
 use Rattle.ag_outside.specs.Calls.{IsReadOnly}
 use Rattle.ag_outside.specs.Disks.{SameImages, Elapses}

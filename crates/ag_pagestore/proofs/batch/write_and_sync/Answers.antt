@@ -1,10 +1,10 @@
-use Rattle.std.proofs.Common.{◌≡◌, ℕ, List, IsTrue, ap, sym, ◌∙◌, subst, Ok, Err, Result, inl, inr}
+use Rattle.std.proofs.Common.{IsTrue, ap, sym, ◌∙◌, subst, Err, Result}
 use Rattle.std.proofs.lemmas.Result.{err_from_is_err_and}
 use Rattle.ag_outside.specs.declared.disk.DiskError.{DiskError}
-use Rattle.ag_outside.specs.Calls.{Call, Sync_call, Leads}
-use Rattle.ag_outside.specs.Disks.{Image, IsImage}
+use Rattle.ag_outside.specs.Calls.{Sync_call, Leads}
+use Rattle.ag_outside.specs.Disks.{Image}
 use Rattle.ag_outside.proofs.Running.{goes_on}
-use Rattle.ag_pagestore.specs.Batches.{pieces, written, went, WritesUntilFault}
+use Rattle.ag_pagestore.specs.Batches.{pieces, went, WritesUntilFault}
 use Rattle.ag_pagestore.specs.Moments.{IsPartOf}
 use Rattle.ag_pagestore.proofs.Faults.{failed_is}
 use Rattle.ag_pagestore.proofs.Leading.{takes_all, fails_at_sync, fails_at_write}

@@ -1,4 +1,3 @@
-use Rattle.std.proofs.Common.{◌≡◌}
 use Rattle.ag_pagestore.specs.Moments.{IsPartOf, IsOldOrNew}
 use Rattle.ag_pagestore.proofs.Moving.{leaves_weaker, part_pages}
 use Rattle.ag_pagestore.proofs.Pages.{is_written}

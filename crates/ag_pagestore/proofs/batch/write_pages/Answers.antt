@@ -1,8 +1,7 @@
-use Rattle.std.proofs.Common.{◌≡◌, ◌+◌, ℕ, [], List, get_or, IsTrue, ap, sym, ◌∙◌, subst, Ok, Err, Result, refl, inl, inr, arith}
+use Rattle.std.proofs.Common.{◌≡◌, ℕ, [], get_or, IsTrue, ap, sym, ◌∙◌, subst, Err, Result, arith}
 use Rattle.std.proofs.lemmas.Result.{err_from_is_err_and}
 use Rattle.ag_outside.specs.declared.disk.DiskError.{DiskError}
-use Rattle.ag_outside.specs.Calls.{Call, Write_call}
-use Rattle.ag_outside.specs.Disks.{Image, IsImage, writes, MayAdd}
+use Rattle.ag_outside.specs.Calls.{Write_call}
 use Rattle.ag_outside.proofs.Running.{goes_on}
 use Rattle.ag_page.specs.Home.{with_mark}
 use Rattle.ag_pagestore.specs.declared.batch.PageWrite.{PageWrite}

@@ -1,4 +1,4 @@
-use Rattle.std.proofs.Common.{◌≡◌, ◌≤◌, ℕ, take, IsTrue}
+use Rattle.std.proofs.Common.{◌≡◌, ◌≤◌, take, IsTrue}
 use Rattle.std.specs.List.{AllByRecursion}
 use Rattle.ag_outside.specs.Calls.{Leads}
 use Rattle.ag_outside.specs.Disks.{put_all, MayAdd}

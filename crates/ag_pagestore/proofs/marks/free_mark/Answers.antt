@@ -1,4 +1,4 @@
-use Rattle.std.proofs.Common.{◌≡◌, ap, sym, ◌∙◌}
+use Rattle.std.proofs.Common.{ap, sym, ◌∙◌}
 use Rattle.ag_model.specs.Cells.{first_or_zero}
 use Rattle.ag_pagestore.proofs.Unused.{all_unused, unused-more, unused-first, unused-none}
 use Rattle.ag_pagestore.proofs.marks.free_mark.Goals as goal

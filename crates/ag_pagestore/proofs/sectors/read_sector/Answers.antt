@@ -1,8 +1,8 @@
-use Rattle.std.proofs.Common.{◌≡◌, ap, ◌∙◌, subst, Ok, Err, Result}
+use Rattle.std.proofs.Common.{ap, ◌∙◌, subst, Err, Result}
 use Rattle.std.proofs.lemmas.Result.{err_from_is_err_and}
 use Rattle.ag_outside.specs.declared.disk.Found.{Found}
 use Rattle.ag_outside.specs.declared.disk.DiskError.{DiskError}
-use Rattle.ag_outside.specs.Calls.{Call, Read_call}
+use Rattle.ag_outside.specs.Calls.{Read_call}
 use Rattle.ag_pagestore.proofs.Faults.{failed_is}
 use Rattle.ag_pagestore.specs.Calling.{reads_none}
 use Rattle.ag_pagestore.proofs.Leading.{reads_on, read_fails}

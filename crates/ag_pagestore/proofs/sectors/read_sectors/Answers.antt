@@ -1,4 +1,4 @@
-use Rattle.std.proofs.Common.{◌≡◌, ◌+◌, ℕ, [], get_or, IsTrue, ap, sym, ◌∙◌, subst, Err, arith}
+use Rattle.std.proofs.Common.{◌+◌, ℕ, [], get_or, IsTrue, ap, sym, ◌∙◌, subst, Err, arith}
 use Rattle.std.proofs.lemmas.Result.{err_from_is_err_and}
 use Rattle.std.proofs.lemmas.List.{length-set}
 use Rattle.ag_outside.specs.declared.disk.DiskError.{DiskError}
@@ -6,7 +6,7 @@ use Rattle.ag_model.specs.declared.answer.Cell.TheVariants.{Lost}
 use Rattle.ag_outside.specs.Disks.{Image}
 use Rattle.ag_pagestore.specs.Found.{IsSector}
 use Rattle.ag_pagestore.proofs.Faults.{failed_is}
-use Rattle.ag_pagestore.specs.Calling.{reads_both, same_images, same_itself}
+use Rattle.ag_pagestore.specs.Calling.{reads_both, same_images}
 use Rattle.ag_pagestore.proofs.Leading.{reads_fail}
 use Rattle.ag_pagestore.proofs.Sixteen.{all_found, sector_more, elapses_on}
 use Rattle.ag_pagestore.proofs.sectors.read_sectors.Goals as goal

@@ -1,9 +1,8 @@
-use Rattle.std.proofs.Common.{◌≡◌, ℕ, List, Bool, IsTrue, Some, Err, ap, sym, ◌∙◌, subst, inl, inr, refl, arith}
+use Rattle.std.proofs.Common.{◌≡◌, Bool, IsTrue, Some, Err, ap, sym, ◌∙◌, subst, inl, inr, refl}
 use Rattle.std.specs.Option.{IfSome}
-use Rattle.ag_outside.specs.Counts.{HasRisen}
 use Rattle.ag_pagestore.specs.declared.fault.PageWriteFault.{PageWriteFault}
 use Rattle.ag_page.specs.Home.{with_page}
-use Rattle.ag_pagestore.specs.Homes.{told_images, Held, Took}
+use Rattle.ag_pagestore.specs.Homes.{told_images, Held}
 use Rattle.ag_pagestore.specs.HomeLaws.{untouched_itself}
 use Rattle.ag_pagestore.proofs.Told.{told_after, counted}
 use Rattle.ag_pagestore.proofs.store.PageStorePageHome.put_back.Goals as goal
