@@ -1,7 +1,7 @@
 //! Pages written and read, torn and lost, with marks worked out by hand.
-ghost use Rattle.std.specs.Prelude.{◌≡◌, ◌<◌, ◌≤◌, ◌+◌, ◌*◌, ℕ, IsTrue, OnOk, true};
-ghost use Rattle.ag_page.specs.Home.{written_over};
-ghost use Rattle.ag_pagestore.specs.Places.{IsPage, image_of};
+ghost use Rattle.std.specs.Prelude.{◌≡◌, ◌≤◌, ◌+◌, ◌*◌, ◌∷◌, [], Some, OnOk, IfSome, is_err, true};
+ghost use Rattle.ag_page.specs.Home.{with_page};
+ghost use Rattle.ag_pagestore.specs.Places.{IsPage};
 
 use super::{PageReadFault, PageStore, PageWrite, PageWriteFault, read, write_batch};
 use ag_model::value::{Change, PageValue, Value, Version, VersionList};
@@ -225,15 +225,24 @@ fn a_lost_page_is_unreadable_until_it_is_written(rt: HostRuntime) -> Result<(), 
     Ok(())
 }
 
-/// Puts a page back through a store over the disk.
+/// Puts a page back where it is at home.
+fn put_in<H: PageHome>(home: &mut H, page: u16, image: &Image) -> Result<(), HomeError>
+    requires { H.has_page home.old page ≡ true }
+    ensures told { OnOk result (IfSome (H.told home.old) (λ images. H.told home.new ≡ Some (with_page images page image.now))) }
+    ensures leaves { H.leaves home.old (record { page = page; image = image.now; refused = is_err result } ∷ []) home.new }
+{
+    home.put_back(page, image)?;
+    Ok(())
+}
+
+/// Puts a page back through a store over the disk. The disk is known again after the store was lent.
 fn put_through<D: Disk>(disk: &mut D, page: u16, image: &Image) -> Result<(), HomeError>
     requires page { IsPage page }
     requires places { 33088 ≤ D.size disk.old }
-    ensures written { OnOk result (IsTrue (D.keeps disk.old) → image_of (D.reads disk.new) page ≡ written_over (image_of (D.reads disk.old) page) image.now) }
     ensures size { D.size disk.new ≡ D.size disk.old }
 {
     let mut store = PageStore::new(disk);
-    store.put_back(page, image)?;
+    put_in(&mut store, page, image)?;
     Ok(())
 }
 
