@@ -6,19 +6,20 @@ use Rattle.ag_model.specs.declared.event.Who.TheVariants.{Letter, Primary}
 use Rattle.ag_model.specs.declared.event.Pair.{Pair}
 use Rattle.ag_model.specs.declared.event.Suffix.TheVariants.{Whole}
 use Rattle.ag_model.specs.declared.event.Event.{Event}
-use Rattle.ag_model.specs.declared.event.Event.TheVariants.{Set, Harden, Send, Deliver, Repeat, Lose, Apply, Raise, Redo, Read}
+use Rattle.ag_model.specs.declared.event.Event.TheVariants.{Set, Harden, Send, Deliver, Repeat, Lose, Apply, Raise, Redo, Read, Crash, Start, Status}
 use Rattle.ag_model.specs.declared.message.Message.{Message}
 use Rattle.ag_model.specs.declared.message.Body.{Body}
 use Rattle.ag_model.specs.declared.message.Body.TheVariants.{Block, Ack}
 use Rattle.ag_record.specs.Spelling.{IsValue}
 use Rattle.ag_wire.specs.Spelling.{HasSpelling}
+use Rattle.ag_built.specs.Whole.{IsWhole}
 
 -- a word that is the letter of a replica
 abbrev pub IsLetter : Who → Type 0
 IsLetter (Letter n) = Unit {0}
 IsLetter Primary = ⊥
 
--- the events of whole transactions, of links and of redo, for replicas by their letters and without a suffix
+-- the events of whole transactions, of links, of redo, and of crash and start, for replicas by their letters and without a suffix
 abbrev pub IsBuilt : Event → Type 0
 IsBuilt (Set w pairs suffix) = IsLetter w × (suffix ≡ Whole)
 IsBuilt (Harden w suffix) = IsLetter w × (suffix ≡ Whole)
@@ -30,6 +31,9 @@ IsBuilt (Apply w x suffix) = IsLetter w × (suffix ≡ Whole)
 IsBuilt (Raise w x suffix) = IsLetter w × (suffix ≡ Whole)
 IsBuilt (Redo w suffix) = IsLetter w × (suffix ≡ Whole)
 IsBuilt (Read w session key suffix) = IsLetter w × (suffix ≡ Whole)
+IsBuilt (Crash w suffix) = IsLetter w × (suffix ≡ Whole)
+IsBuilt (Start w suffix) = IsLetter w × (suffix ≡ Whole)
+IsBuilt (Status w suffix) = IsLetter w × (suffix ≡ Whole)
 IsBuilt _ = ⊥
 
 -- all of these events are built
@@ -49,9 +53,9 @@ HasValues _ = Unit {0}
 abbrev pub HaveValues : List Event → Type 0
 HaveValues es = AllByRecursion HasValues es
 
--- what a message of these events says: a block, or an Ack
+-- what a message of these events says: a block of whole transactions, or an Ack
 abbrev pub IsBuiltBody : Body → Type 0
-IsBuiltBody (Block b) = Unit {0}
+IsBuiltBody (Block b) = IsWhole b.records
 IsBuiltBody (Ack hardened low) = Unit {0}
 IsBuiltBody _ = ⊥
 

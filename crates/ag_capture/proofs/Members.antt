@@ -3,8 +3,9 @@ use Rattle.std.proofs.Common.{◌≡◌, ℕ, zero, suc, ◌+◌, ◌<◌, ◌�
 use Rattle.std.specs.List.{filter, range_with_len}
 use Rattle.std.proofs.lemmas.Bool.Decides.{eqb_tells, nat_tests}
 use Rattle.ag_rules.specs.Group.{has}
+use Rattle.ag_rules.specs.AckEvent.{is_late}
 use Rattle.ag_capture.specs.Captured.{Captured, peer_of}
-use Rattle.ag_capture.specs.Late.{is_late, late_members_of}
+use Rattle.ag_capture.specs.Late.{late_among}
 
 -- tests that agree on a run of numbers keep the same of them
 pub filter-agrees : (p q : ℕ → Bool) (a n : ℕ) → ((x : ℕ) → p x ≡ q x) → filter p (range_with_len a n) ≡ filter q (range_with_len a n)
@@ -46,15 +47,15 @@ filter-first p a (suc n) m low high passes none = elim (eqb_tells a m) [
 
 module _ (c : Captured) (lsn synced : ℕ) where
   -- the first late member is the first of the list
-  pub late_first : (m : ℕ) → m < 16 → is_late c lsn synced m ≡ true → ((k : ℕ) → k < m → is_late c lsn synced k ≡ false) → (rest : List ℕ) × (late_members_of c lsn synced ≡ m ∷ rest)
-  unfolding late_members_of
-  late_first m small late none = filter-first (is_late c lsn synced) 0 16 m (omega arith) (omega arith) late none
+  pub late_first : (m : ℕ) → m < 16 → is_late c.peers lsn synced m ≡ true → ((k : ℕ) → k < m → is_late c.peers lsn synced k ≡ false) → (rest : List ℕ) × (late_among c lsn synced ≡ m ∷ rest)
+  unfolding late_among
+  late_first m small late none = filter-first (is_late c.peers lsn synced) 0 16 m (omega arith) (omega arith) late none
 
   -- nobody is late
-  pub late_none : ((k : ℕ) → k < 16 → is_late c lsn synced k ≡ false) → late_members_of c lsn synced ≡ []
-  unfolding late_members_of
-  late_none none = filter-none (is_late c lsn synced) 0 16 (λ x low high. none x (omega arith))
+  pub late_none : ((k : ℕ) → k < 16 → is_late c.peers lsn synced k ≡ false) → late_among c lsn synced ≡ []
+  unfolding late_among
+  late_none none = filter-none (is_late c.peers lsn synced) 0 16 (λ x low high. none x (omega arith))
 
   -- who is late
-  pub late_is : (m : ℕ) → has synced m ≡ true → (peer_of c m).hardened < lsn → is_late c lsn synced m ≡ true
+  pub late_is : (m : ℕ) → has synced m ≡ true → (peer_of c m).hardened < lsn → is_late c.peers lsn synced m ≡ true
   late_is m member below = grind (arith, nat_tests)

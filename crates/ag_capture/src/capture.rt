@@ -1,14 +1,17 @@
 //! What a primary knows of all replicas.
 ghost use Rattle.std.specs.Prelude.{◌≡◌, ◌<◌, ◌+◌, ◌-◌, ◌^◌, ◌∷◌, ◌++◌, [], ◌↔◌, ◌==◌, ℕ, List, Some, None, IfOk, IfErr, IsOk, IfSome, MatchOption, map, min, true, false, replicate, if◌then◌else◌};
 ghost use Rattle.std.specs.List.{filter, fold};
-ghost use Rattle.ag_model.specs.Blocks.{end_of_block};
 ghost use Rattle.ag_model.specs.Proper.{RisesFrom};
 ghost use Rattle.ag_rules.specs.Replica.{least, no_peer};
-ghost use Rattle.ag_rules.specs.AckEvent.{first_of};
+ghost use Rattle.ag_rules.specs.AckEvent.{first_of, is_local};
 ghost use Rattle.ag_rules.specs.AckMessage.{known_peer};
-ghost use Rattle.ag_capture.specs.Captured.{Captured, peer_of, with_peer_of, greeted, unconnected, sent_up_to, NeverFalls, lows};
-ghost use Rattle.ag_capture.specs.Late.{late_of, late_members_of};
-ghost use Rattle.ag_capture.specs.Limit.{limit_of};
+ghost use Rattle.ag_rules.specs.HelloMessage.{greeted};
+ghost use Rattle.ag_rules.specs.SendEvent.{next_block, sent_up_to};
+ghost use Rattle.ag_rules.specs.SyncEvent.{unconnected};
+ghost use Rattle.ag_rules.specs.TrimEvent.{connected_lows, limit_of};
+ghost use Rattle.ag_capture.specs.Captured.{Captured, peer_of, with_peer_of, NeverFalls};
+ghost use Rattle.ag_capture.specs.Late.{late_among, waited_for};
+ghost use Rattle.ag_capture.specs.Limit.{snapshots_of};
 
 use crate::ack::{Kind, NotYet};
 use crate::blocks::block_end;
@@ -91,7 +94,7 @@ impl Capture {
         requires member { m < 16 }
         requires connected { (peer_of self.now m).connected ≡ true }
         ensures first { IfSome result (λ block. block.0 ≡ (peer_of self.now m).next) }
-        ensures last { RisesFrom 0 log.now.ends → MatchOption result (end_of_block 0 (peer_of self.now m).next log.now.ends ≡ None) (λ block. end_of_block 0 (peer_of self.now m).next log.now.ends ≡ Some block.1) }
+        ensures last { RisesFrom 0 log.now.ends → MatchOption result (next_block (peer_of self.now m) log.now.ends ≡ None) (λ block. next_block (peer_of self.now m) log.now.ends ≡ Some block.1) }
     {
         let peer = &self.peers[usize::from(m)];
         let last = block_end(log.ends.as_slice(), peer.next)?;
@@ -126,7 +129,7 @@ impl Capture {
 
     /// The least member of a set that isn't known to have hardened an LSN.
     fn first_late(&self, lsn: u64, synced: u16) -> Option<u8>
-        ensures { MatchOption result (late_members_of self.now lsn synced ≡ []) (λ m. (rest : List ℕ) × (late_members_of self.now lsn synced ≡ m ∷ rest)) }
+        ensures { MatchOption result (late_among self.now lsn synced ≡ []) (λ m. (rest : List ℕ) × (late_among self.now lsn synced ≡ m ∷ rest)) }
     {
         for m in 0..16u8 {
             let peer = &self.peers[usize::from(m)];
@@ -140,9 +143,9 @@ impl Capture {
     /// Whether a commit at an LSN may be confirmed, where the primary has hardened up to its own LSN and this is its copy of
     /// the synchronised set.
     pub fn may_ack(&self, lsn: u64, own: u64, synced: u16) -> Result<Kind, NotYet>
-        ensures some { IsOk result ↔ (late_of self.now lsn own synced ≡ []) }
-        ensures not_yet { IfErr result (λ e. e ≡ record { lsn = lsn; who = first_of (late_of self.now lsn own synced) }) }
-        ensures kind { IfOk result (λ kind. kind ≡ (if synced == 0 then Kind.Local else Kind.Sync)) }
+        ensures some { IsOk result ↔ (waited_for self.now lsn own synced ≡ []) }
+        ensures not_yet { IfErr result (λ e. e ≡ record { lsn = lsn; who = first_of (waited_for self.now lsn own synced) }) }
+        ensures kind { IfOk result (λ kind. kind ≡ (if is_local synced then Kind.Local else Kind.Sync)) }
     {
         if own < lsn {
             return Err(NotYet {
@@ -162,7 +165,7 @@ impl Capture {
 
     /// The least of an LSN and the lows of the replicas that are connected.
     fn least_low(&self, start: u64) -> u64
-        ensures { result ≡ fold min start (lows self.now) }
+        ensures { result ≡ fold min start (connected_lows self.now.peers) }
     {
         let mut least = start;
         for peer in self.peers.iter() {
@@ -176,7 +179,7 @@ impl Capture {
     /// The greatest horizon that a trim may have, where the primary has hardened up to its own LSN, and this is the least
     /// snapshot of its open transactions.
     pub fn limit(&self, own: u64, snapshot: Option<u64>) -> u64
-        ensures { result ≡ limit_of self.now own snapshot }
+        ensures { result ≡ limit_of own (snapshots_of snapshot) self.now.peers }
     {
         match snapshot {
             Some(snapshot) => self.least_low(own.min(snapshot)),

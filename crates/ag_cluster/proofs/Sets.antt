@@ -7,7 +7,7 @@ use Rattle.std.proofs.lemmas.Bool.Decides.{eqb_tells}
 use Rattle.std.proofs.lemmas.Nat.{and_block, or_block, and_mask, one_shl, pow_pos, pow-add, shr_below, div-add-mod'}
 use Rattle.std.proofs.Math.Nat.{mod-lt, mod-eq_of_lt}
 use Rattle.std.proofs.Math.Pow.{pow_mono}
-use Rattle.std.proofs.lemmas.Nat.Bits.{shr_and_one, and_high_mask, bit_at_ones}
+use Rattle.std.proofs.lemmas.Nat.Bits.{shr_and_one, and_high_mask}
 use Rattle.ag_rules.specs.Group.{with_member, without_member}
 
 -- the bit of a replica
@@ -83,7 +83,3 @@ bit_cleared set n small below =
           let even : q / 2 * 2 ≡ q = omega (arith, is.1) in
           joined ∙ ap (λ x. x * 2 ^ n + r) even ∙ parts ∙ rw is.0 refl
     ]
-
--- all replicas but one, as a difference
-pub all_but : (n count : ℕ) → n < count → without_member (2 ^ count - 1) n ≡ (2 ^ count - 1) - 2 ^ n
-all_but n count below = rw (bit_at_ones count n below) refl

@@ -1,9 +1,8 @@
 //! The moves of the store to a new term.
-ghost use Rattle.std.specs.Prelude.{◌≡◌, ◌≢◌, ◌↔◌, ◌<◌, ◌≤◌, ◌+◌, ◌-◌, ◌^◌, true, false, IsOk, IfOk, OnOk, OnErr};
+ghost use Rattle.std.specs.Prelude.{◌≡◌, ◌≢◌, ◌↔◌, ◌<◌, ◌≤◌, ◌+◌, ◌^◌, true, false, IsOk, IfOk, OnOk, OnErr};
 ghost use Rattle.ag_rules.specs.Group.{has};
 ghost use Rattle.ag_rules.specs.Failover.{moved, moved_by_force};
 ghost use Rattle.ag_rules.specs.ResumeEvent.{with_resumed};
-ghost use Rattle.ag_cluster.specs.Forced.{moved_to_one};
 
 use crate::members::{first_members, has_member, without_member};
 use crate::synced::{ClusterFault, compare};
@@ -80,13 +79,11 @@ pub fn automatic(r: &mut Register, term: u64, n: u8) -> Result<u64, ClusterFault
 
 /// A forced failover to any replica, of so many: all others are suspended until each is resumed. The answer is the new
 /// term.
-#[tactic(auto, using(crate::proofs::Sets::all_but))]
 pub fn forced(r: &mut Register, n: u8, replicas: u8) -> u64
     requires member { n < 16 }
     requires count { replicas ≤ 16 }
     requires term { r.old.term < 2 ^ 63 }
-    ensures after { r.new ≡ moved_to_one r.old n replicas }
-    ensures rules { n < replicas → r.new ≡ moved_by_force r.old n replicas }
+    ensures after { r.new ≡ moved_by_force r.old n replicas }
     ensures term { result ≡ r.old.term + 1 }
 {
     let term = move_to(r, n);

@@ -1,5 +1,5 @@
 -- An event of one node, as an event of the group.
-use Rattle.std.proofs.Common.{◌≡◌, ℕ, zero, suc, ◌+◌, ◌<◌, List, [], ◌∷◌, ◌++◌, length, get_or, set, Bool, true, false, refl, sym, ap, ◌∙◌, subst, arith}
+use Rattle.std.proofs.Common.{◌≡◌, ℕ, zero, suc, ◌+◌, ◌<◌, List, [], ◌∷◌, ◌++◌, length, get_or, set, Bool, true, false, not, refl, sym, ap, ◌∙◌, subst, arith}
 use Rattle.std.specs.Prelude.{Option, Some, None, if◌then◌else◌}
 use Rattle.std.proofs.lemmas.List.{get_or_read, set-get_or}
 use Rattle.ag_model.specs.declared.config.Token.{Token}
@@ -10,9 +10,11 @@ use Rattle.ag_rules.specs.Replica.{Replica}
 use Rattle.ag_rules.specs.Group.{Group, replica, nobody, with_replica}
 use Rattle.ag_rules.specs.Plan.{Part, Posting, Here, Check, Case, here, at_node, posted, unless, first_case, refused, at_once}
 use Rattle.ag_rules.specs.Access.{access, cases_of_access}
-use Rattle.ag_model.specs.declared.answer.Answer.TheVariants.{Lsn}
+use Rattle.ag_model.specs.declared.answer.Answer.TheVariants.{Lsn, Crashed, Status}
+use Rattle.ag_model.specs.declared.answer.Refusal.TheVariants.{Down}
+use Rattle.ag_model.specs.declared.config.Mode.{Mode}
 use Rattle.ag_model.specs.Rows.{page_of, rows}
-use Rattle.ag_rules.specs.Replica.{end, front, full_end, effective, records, page_value, stripe}
+use Rattle.ag_rules.specs.Replica.{end, fallen, front, full_end, effective, is_reverting, records, page_value, stripe}
 use Rattle.ag_rules.specs.Checks.{buffer_is_full}
 use Rattle.ag_rules.specs.BeginEvent.{checks_of_begin}
 use Rattle.ag_rules.specs.Redo.{due_pages, touched_up_to}
@@ -22,6 +24,9 @@ use Rattle.ag_rules.specs.RedoEvent.{redo_part, redoes_touching, checks_of_redo}
 use Rattle.ag_rules.specs.ApplyEvent.{apply_part, applies_touching, checks_of_apply, next_of_stripe, touched_in_stripe}
 use Rattle.ag_rules.specs.RaiseEvent.{raise_part, raised, checks_of_raise}
 use Rattle.ag_rules.specs.ReadEvent.{read_part, reads_at, checks_of_read, row_answer, is_too_old}
+use Rattle.ag_rules.specs.CrashEvent.{crash_part}
+use Rattle.ag_rules.specs.StartEvent.{start_part, start_records, checks_of_start, starts, starts_reverting, starts_redoing, starts_first, starts_second, is_named}
+use Rattle.ag_rules.specs.LookEvent.{status_part, role_of, printed_state}
 use Rattle.ag_model.specs.declared.message.Message.{Message}
 use Rattle.ag_model.specs.declared.message.Body.{Body}
 use Rattle.ag_model.specs.declared.message.Body.TheVariants.{Block, Ack}
@@ -37,7 +42,7 @@ use Rattle.ag_rules.specs.AckMessage.{ack_message_part, checks_of_ack_message, k
 use Rattle.ag_built.specs.Built.{IsBuiltBody}
 use Rattle.ag_rules.specs.Next.{at_session, with_token, token_after, token, session_of}
 use Rattle.ag_node.specs.declared.site.Site.{Site}
-use Rattle.ag_node.specs.Sites.{here_at}
+use Rattle.ag_node.specs.Sites.{here_at, here_among}
 
 -- what an event does at a place, to a replica
 abbrev pub Doing : Type 0
@@ -201,28 +206,67 @@ message_free from full message built h r = ap (λ (x : Part). unless (is_down h 
     body_free (Ack hardened low) built = refl
     body_free _ built = absurd built
 
--- a message that is taken and a node that is changed, in either order; a repeated message isn't taken
-pub after_delivery : (repeats stays : Bool) (g : Group) (n m i : ℕ) (r : Replica) (out : List Posting) →
-    posted m out (if repeats then with_replica g m r else if stays then with_replica g m r else taken (with_replica g m r) n m i) ≡ posted m out (with_replica (if repeats then g else if stays then g else taken g n m i) m r)
-after_delivery true stays g n m i r out = refl
-after_delivery false true g n m i r out = refl
-after_delivery false false g n m i r out = refl
-
-pub untouched : (g : Group) (n : ℕ) → g ≡ with_replica g n (replica g n)
-untouched g n = λ i. record g { replicas = sym (set-get_or g.replicas n nobody) i }
-
 pub ack_quiet : (h : Here) (from : ℕ) (r : Replica) (full : Bool) (term hardened low : ℕ) → (unless (is_down h r ∷ []) r (arrives h from r full term (Ack hardened low))).out ≡ []
 unfolding ack_message_part
 ack_quiet h from r full term hardened low =
     unless_out (is_down h r ∷ []) r (ack_message_part from r term hardened low) (unless_out (checks_of_ack_message from r term) r (at_once (Known (max (peer r from).hardened hardened)) (with_peer r from (known_peer (peer r from) hardened low))) refl)
 
--- what holds of each item holds where one is replaced
-pub all_set : {X : Type 0} (P : X → Type 0) (xs : List X) (i : ℕ) (x : X) → AllByRecursion P xs → P x → AllByRecursion P (set xs i x)
-all_set P [] i x p q = tt
-all_set P (y ∷ ys) zero x p q = (q, p.1)
-all_set P (y ∷ ys) (suc i) x p q = (p.0, all_set P ys i x p.1 q)
+-- a crash, a start and a status
 
-pub at_place : {X : Type 0} (P : X → Type 0) (xs : List X) (i : ℕ) (d : X) → i < length xs → AllByRecursion P xs → P (get_or xs i d)
-at_place P [] i d h p = absurd (omega arith)
-at_place P (x ∷ xs) zero d h p = p.0
-at_place P (x ∷ xs) (suc i) d h p = at_place P xs i d (omega arith) p.1
+pub crash_quiet : IsQuiet crash_part
+unfolding crash_part
+crash_quiet h r = unless_out (is_down h r ∷ []) r (at_once Crashed (fallen r r.kept)) refl
+
+pub crash_free : AsksNoModes crash_part
+unfolding crash_part
+crash_free h r = refl
+
+pub status_quiet : IsQuiet status_part
+unfolding status_part
+status_quiet h r = unless_out (is_down h r ∷ []) r (at_once (Status (role_of r) (printed_state h r) r.term (end r) (front r)) r) refl
+
+pub status_free : AsksNoModes status_part
+unfolding status_part
+status_free h r = refl
+
+status_after : (h : Here) (r : Replica) → (status_part h r).after ≡ r
+unfolding status_part
+status_after h r = elim (not r.up) as (λ b. (if b then refused (Down h.number) r else at_once (Status (role_of r) (printed_state h r) r.term (end r) (front r)) r).after ≡ r) [ true ↦ refl | false ↦ refl ]
+
+-- a node that is asked leaves the group
+pub status_left : (g : Group) (n : ℕ) → (at_node g n (status_part (here g n) (replica g n))).after ≡ g
+status_left g n =
+    ap (λ (out : List Posting). posted n out (with_replica g n (status_part (here g n) (replica g n)).after)) (status_quiet (here g n) (replica g n))
+    ∙ ap (with_replica g n) (status_after (here g n) (replica g n)) ∙ (λ i. record g { replicas = set-get_or g.replicas n nobody i })
+
+if_out : (b : Bool) (x y : Part) → x.out ≡ [] → y.out ≡ [] → (if b then x else y).out ≡ []
+if_out true x y p q = p
+if_out false x y p q = q
+
+start_quiet : IsQuiet start_part
+unfolding start_part
+start_quiet h r =
+    let new = start_records h r in
+    unless_out (checks_of_start h r new) r (starts h r new)
+    (if_out (is_reverting r.state) (starts_reverting r) (starts_redoing h r new) refl (if_out (is_named h) (starts_first h r new) (starts_second r (touched_up_to h.pages (end r) r)) refl refl))
+
+-- the place of a node, with the modes of all
+place_among : (g : Group) (n : ℕ) (site : Site) (modes : List Mode) → site.number ≡ n → site.pages ≡ g.config.pages → site.store ≡ g.register → modes ≡ g.config.modes → here_among site modes ≡ here g n
+place_among g n site modes a b c m = λ i. record { number = a i; pages = b i; modes = m i; store = c i }
+
+start_is : (g : Group) (n n' : ℕ) (site : Site) (modes : List Mode) (old : Replica) → n < length g.replicas → site.number ≡ n → site.pages ≡ g.config.pages → site.store ≡ g.register → modes ≡ g.config.modes → n' ≡ n → old ≡ get_or g.replicas n' old
+    → start_part (here_among site modes) old ≡ start_part (here g n) (replica g n)
+start_is g n n' site modes old within a b c m e o = λ i. start_part (place_among g n site modes a b c m i) (get_or_read g.replicas n old within (o ∙ ap (λ (k : ℕ). get_or g.replicas k old) e) nobody i)
+
+-- the group after a start
+pub start_lifted : (g g' : Group) (n n' : ℕ) (site : Site) (modes : List Mode) (old new : Replica) → n < length g.replicas → site.number ≡ n → site.pages ≡ g.config.pages → site.store ≡ g.register → modes ≡ g.config.modes → n' ≡ n → old ≡ get_or g.replicas n' old
+    → new ≡ (start_part (here_among site modes) old).after → g ≡ g' → record g { replicas = set g.replicas n' new } ≡ (at_node g' n (start_part (here g' n) (replica g' n))).after
+start_lifted g g' n n' site modes old new within a b c m e o step is =
+    (λ i. record g { replicas = set g.replicas (e i) ((step ∙ ap (λ (x : Part). x.after) (start_is g n n' site modes old within a b c m e o)) i) })
+    ∙ ap (λ (out : List Posting). posted n out (with_replica g n (start_part (here g n) (replica g n)).after)) (sym (start_quiet (here g n) (replica g n)))
+    ∙ (λ i. (at_node (is i) n (start_part (here (is i) n) (replica (is i) n))).after)
+
+pub start_told : (g g' : Group) (n n' : ℕ) (site : Site) (modes : List Mode) (old : Replica) (a : Answer) → n < length g.replicas → site.number ≡ n → site.pages ≡ g.config.pages → site.store ≡ g.register → modes ≡ g.config.modes → n' ≡ n → old ≡ get_or g.replicas n' old
+    → a ≡ (start_part (here_among site modes) old).answer → g ≡ g' → a ≡ (at_node g' n (start_part (here g' n) (replica g' n))).answer
+start_told g g' n n' site modes old answer within a b c m e o step is =
+    step ∙ ap (λ (x : Part). x.answer) (start_is g n n' site modes old within a b c m e o) ∙ (λ i. (start_part (here (is i) n) (replica (is i) n)).answer)

@@ -46,8 +46,8 @@ columns_of zero count = tt
 columns_of (suc n) count = (length-replicate count _, columns_of n count)
 
 pub group_opened : (c : Config) (nodes : List Replica) (links : List (List (List Message))) (register : Register) (tokens : List (Option Token))
-    → IsConfig c → nodes ≡ opening_replicas c c.modes → links ≡ replicate (length c.modes) (replicate (length c.modes) []) → tokens ≡ replicate 64 None → register.primary ≡ 0 → IsGroup c nodes links register (length tokens)
-group_opened c nodes links register tokens config n l t p = record {
+    → IsConfig c → nodes ≡ opening_replicas c c.modes → links ≡ replicate (length c.modes) (replicate (length c.modes) []) → tokens ≡ replicate 64 None → register.primary ≡ 0 → register.term ≡ 1 → IsGroup c nodes links register (length tokens)
+group_opened c nodes links register tokens config n l t p term = record {
   settings = config;
   each = ap length n ∙ count_of_all c c.modes;
   pages = subst (λ (x : List Replica). AllByRecursion (λ (r : Replica). length r.pages ≡ c.pages) x) (sym n) (pages_of_all c c.modes);
@@ -55,4 +55,5 @@ group_opened c nodes links register tokens config n l t p = record {
   columns = subst (λ (x : List (List (List Message))). AllByRecursion (λ (row : List (List Message)). length row ≡ length c.modes) x) (sym l) (columns_of (length c.modes) (length c.modes));
   primary = omega (arith, p, config.replicas.0);
   tokens = ap length t;
+  term = term;
 }

@@ -17,12 +17,12 @@ use Rattle.ag_model.specs.declared.message.Body.TheVariants.{Block as BlockBody,
 use Rattle.ag_model.specs.declared.message.Block.{Block}
 use Rattle.ag_model.specs.declared.record.Record.{Record}
 use Rattle.ag_model.specs.declared.answer.Answer.{Answer}
-use Rattle.ag_model.specs.declared.answer.Answer.TheVariants.{No, Lsn, Sent, Known, Hardened, Raised, Lost}
+use Rattle.ag_model.specs.declared.answer.Answer.TheVariants.{No, Crashed, Lsn, Sent, Known, Hardened, Raised, Lost}
 use Rattle.ag_model.specs.declared.answer.Refusal.{Refusal}
 use Rattle.ag_model.specs.declared.answer.Refusal.TheVariants.{Unreadable, Torn, NotNoted, Down, Nothing, Pending, NoMessage, Gap, LinkFull, LogFull}
 use Rattle.ag_model.specs.Cells.{has_lost}
 use Rattle.ag_model.specs.Rows.{page_of, rows}
-use Rattle.ag_rules.specs.Replica.{Replica, stripe, image, records, front, full_end, effective, page_value, end, peer, with_peer}
+use Rattle.ag_rules.specs.Replica.{Replica, fallen, is_reverting, stripe, image, records, front, full_end, effective, page_value, end, peer, with_peer}
 use Rattle.ag_rules.specs.Group.{Group, replica, nobody, with_replica, link, is_full}
 use Rattle.ag_rules.specs.Plan.{Part, Posting, Plan, Here, Check, Case, here, at_node, posted, unless, first_case, refused, at_once, sending, writing, each_synced, Block_write}
 use Rattle.ag_rules.specs.Access.{access, cases_of_access, notes, pended}
@@ -36,6 +36,8 @@ use Rattle.ag_rules.specs.RedoEvent.{redo_part, redoes_touching, checks_of_redo}
 use Rattle.ag_rules.specs.ApplyEvent.{apply_part, applies_touching, checks_of_apply, next_of_stripe, touched_in_stripe}
 use Rattle.ag_rules.specs.RaiseEvent.{raise_part, raised, checks_of_raise}
 use Rattle.ag_rules.specs.ReadEvent.{read_part, reads_at, checks_of_read, row_answer, is_too_old}
+use Rattle.ag_rules.specs.CrashEvent.{crash_part}
+use Rattle.ag_rules.specs.StartEvent.{start_part, start_records, checks_of_start, starts, starts_reverting, starts_redoing, starts_first, starts_second, is_named}
 use Rattle.ag_rules.specs.SendEvent.{send_part, sends, checks_of_send, block_to_send}
 use Rattle.ag_rules.specs.BlockMessage.{block_part, cases_of_block, acks}
 use Rattle.ag_rules.specs.AckMessage.{ack_message_part, checks_of_ack_message, known_peer}
@@ -116,6 +118,18 @@ apply_stays h r x = stays_unless leaves_node (checks_of_apply h r x) r (applies_
 raise_stays : (h : Here) (r : Replica) (x : ℕ) → Stays leaves_node r (raise_part h r x)
 unfolding raise_part
 raise_stays h r x = stays_unless leaves_node (checks_of_raise h r x) r (at_once (Raised (stripe r x).applied) (raised r x)) (λ why e t. absurd cc)
+
+crash_stays : (h : Here) (r : Replica) → Stays leaves_node r (crash_part h r)
+unfolding crash_part
+crash_stays h r = stays_unless leaves_node (is_down h r ∷ []) r (at_once Crashed (fallen r r.kept)) (λ why e t. absurd cc)
+
+start_stays : (h : Here) (r : Replica) → Stays leaves_node r (start_part h r)
+unfolding start_part
+start_stays h r =
+    let new = start_records h r in
+    stays_unless leaves_node (checks_of_start h r new) r (starts h r new)
+    (stays_if leaves_node r (is_reverting r.state) (starts_reverting r) (starts_redoing h r new) (λ why e t. absurd cc)
+    (stays_if leaves_node r (is_named h) (starts_first h r new) (starts_second r (touched_up_to h.pages (end r) r)) (λ why e t. absurd cc) (λ why e t. absurd cc)))
 
 row_told : (at : ℕ) (row : Row) (r : Replica) → Stays leaves_node r (at_once (row_answer at row) r)
 row_told at (Found value) r why e t = (refl, refl)
@@ -239,6 +253,12 @@ apply_left g n x = node_stays leaves_node g n (apply_part (here g n) (replica g 
 
 pub raise_left : (g : Group) (n x : ℕ) (why : Refusal) → (at_node g n (raise_part (here g n) (replica g n) x)).answer ≡ No why → leaves_node why ≡ true → (at_node g n (raise_part (here g n) (replica g n) x)).after ≡ g
 raise_left g n x = node_stays leaves_node g n (raise_part (here g n) (replica g n) x) (raise_stays (here g n) (replica g n) x)
+
+pub crash_left : (g : Group) (n : ℕ) (why : Refusal) → (at_node g n (crash_part (here g n) (replica g n))).answer ≡ No why → leaves_node why ≡ true → (at_node g n (crash_part (here g n) (replica g n))).after ≡ g
+crash_left g n = node_stays leaves_node g n (crash_part (here g n) (replica g n)) (crash_stays (here g n) (replica g n))
+
+pub start_left : (g : Group) (n : ℕ) (why : Refusal) → (at_node g n (start_part (here g n) (replica g n))).answer ≡ No why → leaves_node why ≡ true → (at_node g n (start_part (here g n) (replica g n))).after ≡ g
+start_left g n = node_stays leaves_node g n (start_part (here g n) (replica g n)) (start_stays (here g n) (replica g n))
 
 pub read_left : (g : Group) (n s key : ℕ) (why : Refusal) → (at_session g n s (read_part (here g n) (replica g n) (token g s) key)).answer ≡ No why → leaves_node why ≡ true → (at_session g n s (read_part (here g n) (replica g n) (token g s) key)).after ≡ g
 read_left g n s key = session_stays g n s (read_part (here g n) (replica g n) (token g s) key) (read_stays (here g n) (replica g n) (token g s) key)

@@ -16,4 +16,5 @@ pub record IsGroup (config : Config) (nodes : List Replica) (links : List (List 
   pub rows : length links ≡ length config.modes
   pub columns : AllByRecursion (λ row. length row ≡ length config.modes) links
   pub primary : register.primary < length config.modes
+  pub term : register.term ≡ 1
   pub tokens : sessions ≡ 64

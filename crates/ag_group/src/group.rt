@@ -166,6 +166,21 @@ impl Group {
                 let answer = self.read(alloc, n, *session, *key)?;
                 Ok(answer)
             }
+            Event::Crash { node, suffix: _ } => {
+                let n = self.named(node);
+                let answer = self.crash(alloc, n);
+                Ok(answer)
+            }
+            Event::Start { node, suffix: _ } => {
+                let n = self.named(node);
+                let answer = self.start(alloc, n)?;
+                Ok(answer)
+            }
+            Event::Status { node, suffix: _ } => {
+                let n = self.named(node);
+                let answer = self.status(n);
+                Ok(answer)
+            }
             _ => unreachable!(),
         }
     }

@@ -22,6 +22,8 @@ use ag_script::script::read_events;
 use std::alloc::{AllocError, Global};
 
 #[cfg(test)]
+mod crashes;
+#[cfg(test)]
 mod tests;
 
 /// Plays the scenario that the source has, and writes its transcript to the sink: a header line, and a line for each answer.

@@ -9,9 +9,10 @@ use Rattle.ag_rules.specs.Group.{Group}
 use Rattle.ag_rules.specs.Plan.{Part, Posting, Write, Batch, Page_write, Note_write, Repaired_write, all_written, Check, at_once, unless}
 use Rattle.ag_rules.specs.ResumeMessage.{waits_for}
 use Rattle.ag_rules.specs.Next.{token}
+use Rattle.ag_rules.specs.SessionLaw.{Reaches}
 use Rattle.ag_laws.specs.Prefix.{IsPrefixOf}
 use Rattle.ag_laws.specs.Fits.{MessageFits, IsGiven}
-use Rattle.ag_laws.specs.Keeps.{Keeps, Later, Grows}
+use Rattle.ag_laws.specs.Keeps.{Keeps, Later}
 use Rattle.ag_laws.specs.Logs.{Logs, Setting, AreLogs}
 use Rattle.ag_laws.specs.At.{At}
 use Rattle.ag_laws.specs.Disk.{KeptAt}
@@ -75,7 +76,7 @@ pub record Stays (s : Setting) (logs : Logs) (before after : Group) : Type 0 whe
   pub grown : Logs
   pub later : Later s logs s grown after
   pub good : Good s grown after
-  pub sessions : (x : ℕ) → Grows (token before x) (token after x)
+  pub sessions : (x : ℕ) → Reaches (token before x) (token after x)
 
 pub keeps_of : (s : Setting) (logs : Logs) (before after : Group) → Stays s logs before after → Keeps s logs before after
 keeps_of s logs before after k = record { setting = s; step = omega arith; grown = k.grown; later = k.later; good = k.good; sessions = k.sessions }

@@ -1,16 +1,11 @@
 -- How the group may go on: what each event keeps.
 use Rattle.std.specs.Prelude.{◌≡◌, ◌≢◌, ℕ, ◌+◌, ◌≤◌}
-use Rattle.ag_model.specs.declared.config.Token.{Token}
 use Rattle.ag_rules.specs.Group.{Group, replica}
 use Rattle.ag_rules.specs.Next.{token}
+use Rattle.ag_rules.specs.SessionLaw.{Reaches}
 use Rattle.ag_laws.specs.Prefix.{IsPrefixOf}
 use Rattle.ag_laws.specs.Logs.{Logs, Setting}
 use Rattle.ag_laws.specs.Good.{Good}
-
--- a token doesn't fall
-pub record Grows (old new : Token) : Type 0 where
-  pub term : old.term ≤ new.term
-  pub lsn : old.term ≡ new.term → old.lsn ≤ new.lsn
 
 -- which logs may have grown from one group to the next: those whose leader has their term afterwards
 pub record Later (s : Setting) (logs : Logs) (after : Setting) (grown : Logs) (g : Group) : Type 0 where
@@ -27,4 +22,4 @@ pub record Keeps (s : Setting) (logs : Logs) (before after : Group) : Type 0 whe
   pub grown : Logs
   pub later : Later s logs setting grown after
   pub good : Good setting grown after
-  pub sessions : (x : ℕ) → Grows (token before x) (token after x)
+  pub sessions : (x : ℕ) → Reaches (token before x) (token after x)

@@ -1,10 +1,8 @@
 -- Records that have a spelling, and blocks that can be sent.
-use Rattle.std.proofs.Common.{◌≡◌, ℕ, zero, suc, ◌+◌, ◌-◌, ◌<◌, ◌≤◌, List, [], ◌∷◌, ◌++◌, length, take, drop, sym, ap, ◌∙◌, subst, inl, inr, arith, eqb-true}
-use Rattle.std.specs.Prelude.{false, Option, Some, None, IfSome, ◌==◌}
-use Rattle.std.proofs.lemmas.Option.{same_Some}
-use Rattle.std.proofs.lemmas.List.{take-append-le, drop-append-le, length-drop, drop-drop, drop-take, length-take-le}
+use Rattle.std.proofs.Common.{◌≡◌, ℕ, zero, suc, ◌+◌, ◌-◌, ◌<◌, ◌≤◌, List, [], ◌∷◌, ◌++◌, length, take, drop, ap, arith}
+use Rattle.std.specs.Prelude.{false, Option, IfSome, ◌==◌}
+use Rattle.std.proofs.lemmas.List.{length-drop, length-take-le}
 use Rattle.std.proofs.lemmas.List.Sums.{sum_by-cons}
-use Rattle.std.proofs.Math.Seq.{take-length}
 use Rattle.ag_model.specs.declared.record.Record.{Record}
 use Rattle.ag_model.specs.Blocks.{end_of_block, after_to}
 use Rattle.ag_model.specs.Sizes.{record_size, records_size}
@@ -12,7 +10,7 @@ use Rattle.ag_record.specs.Spelling.{HaveSpelling}
 use Rattle.ag_record.proofs.Many.{length-records, size-least}
 use Rattle.ag_record.specs.Spelling.{ArePayload}
 use Rattle.ag_logstore.specs.LogKept.{RisesTo, AreSmall}
-use Rattle.ag_logstore.proofs.LogEnds.{rises_le, chosen}
+use Rattle.ag_logstore.proofs.Blocks.{blocks_push, block_found}
 
 -- records one after the other, and some of them
 pub fit_append : (xs ys : List Record) → HaveSpelling xs → HaveSpelling ys → HaveSpelling (xs ++ ys)
@@ -60,41 +58,9 @@ payload_copy low high rs copy h is l within small =
 -- one more block
 pub small_push : (low high : ℕ) (es : List ℕ) (rs new : List Record) → RisesTo low high es → high ≡ low + length rs → AreSmall low es rs → records_size new ≤ 15488
     → AreSmall low (es ++ (high + length new) ∷ []) (rs ++ new)
-small_push low high [] [] new p h a s =
-    let n : (high + length new) - low ≡ length new = omega (arith, p) in
-    (rw (n, take-length) s, tt)
-small_push low high [] (r ∷ rs) new p h a s = absurd (omega (arith, p, h))
-small_push low high (e ∷ es) rs new p h a s =
-    let within : e - low ≤ length rs = omega (arith, h, p.0, rises_le e high es p.1) in
-    let rest : high ≡ e + length (drop (e - low) rs) = omega (arith, h, p.0, rises_le e high es p.1, length-drop (e - low) rs) in
-    (rw (take-append-le (e - low) rs new within) a.0, rw (drop-append-le (e - low) rs new within) (small_push e high es (drop (e - low) rs) new p.1 rest a.1 s))
+small_push low high es rs new p h a s = blocks_push (λ b. records_size b ≤ 15488) low high es rs new p h a s
 
--- a part of the records after some of them
-later_part : (a b c : ℕ) (rs : List Record) → drop (a + b) (take (a + c) rs) ≡ drop b (take c (drop a rs))
-later_part a b c rs = sym (drop-drop b a (take (a + c) rs)) ∙ ap (λ (xs : List Record). drop b xs) (drop-take a c rs)
-
--- a block that is found is one of them
-small_block : (low high first : ℕ) (es : List ℕ) (rs : List Record) (last : ℕ) → RisesTo low high es → AreSmall low es rs → end_of_block low first es ≡ Some last
-    → (low < first) × (first ≤ last) × (records_size (after_to ((first - 1) - low) (last - low) rs) ≤ 15488)
-small_block low high first [] rs last p a h = absurd cc
-small_block low high first (e ∷ es) rs last p a h =
-    elim (chosen (first == low + 1) (Some e) (end_of_block e first es) (Some last) h) [
-      | inl q ↦
-          let at : first ≡ low + 1 = eqb-true first (low + 1) q.0 in
-          let is : e ≡ last = same_Some e last q.1 in
-          let none : (first - 1) - low ≡ 0 = omega (arith, at) in
-          (omega (arith, at), omega (arith, at, is, p.0), rw (none, ← is) a.0)
-      | inr q ↦
-          let more = small_block e high first es (drop (e - low) rs) last p.1 a.1 q.1 in
-          let from : (first - 1) - low ≡ (e - low) + ((first - 1) - e) = omega (arith, p.0, more.0) in
-          let to : last - low ≡ (e - low) + (last - e) = omega (arith, p.0, more.0, more.1) in
-          (omega (arith, p.0, more.0), more.1, rw (from, to, later_part (e - low) ((first - 1) - e) (last - e) rs) more.2)
-    ]
-
+-- a block that is found
 pub small_found : (found : Option ℕ) (high first : ℕ) (es : List ℕ) (rs : List Record) → RisesTo 0 high es → AreSmall 0 es rs → found ≡ end_of_block 0 first es
     → IfSome found (λ last. records_size (after_to (first - 1) last rs) ≤ 15488)
-small_found None high first es rs p a h = tt
-small_found (Some last) high first es rs p a h =
-    let from : (first - 1) - 0 ≡ first - 1 = omega arith in
-    let to : last - 0 ≡ last = omega arith in
-    subst (λ (n : ℕ). records_size (after_to n last rs) ≤ 15488) from (subst (λ (n : ℕ). records_size (after_to ((first - 1) - 0) n rs) ≤ 15488) to (small_block 0 high first es rs last p a (sym h)).2)
+small_found found high first es rs p a h = block_found (λ b. records_size b ≤ 15488) found high first es rs p a h

@@ -1,5 +1,5 @@
 -- What a log in memory keeps beside its records.
-use Rattle.std.specs.Prelude.{◌≡◌, ℕ, ◌+◌, ◌-◌, ◌<◌, ◌≤◌, List, [], ◌∷◌, length, take, drop, nat_le, if◌then◌else◌}
+use Rattle.std.specs.Prelude.{◌≡◌, ℕ, ◌+◌, ◌<◌, ◌≤◌, List, [], ◌∷◌, length, nat_le, if◌then◌else◌}
 use Rattle.std.specs.List.{flat_map, fold, enumerate_from}
 use Rattle.ag_model.specs.declared.config.TermStart.{TermStart}
 use Rattle.ag_model.specs.declared.record.Record.{Record}
@@ -7,6 +7,7 @@ use Rattle.ag_model.specs.declared.record.Log.{Log}
 use Rattle.ag_model.specs.Starts.{start_by, term_starts}
 use Rattle.ag_model.specs.Sizes.{records_size, log_sectors}
 use Rattle.ag_record.specs.Spelling.{HaveSpelling}
+use Rattle.ag_logstore.specs.Blocks.{AreBlocks}
 
 -- block ends that rise from one LSN to another
 abbrev pub RisesTo : ℕ → ℕ → List ℕ → Type 0
@@ -23,8 +24,7 @@ term_by last starts = fold (λ term s. if nat_le s.lsn last then s.term else ter
 
 -- blocks that end there take at most 15488 bytes each, where the first one starts after an LSN
 abbrev pub AreSmall : ℕ → List ℕ → List Record → Type 0
-AreSmall low [] rs = Unit {0}
-AreSmall low (e ∷ es) rs = (records_size (take (e - low) rs) ≤ 15488) × AreSmall e es (drop (e - low) rs)
+AreSmall low ends rs = AreBlocks (λ b. records_size b ≤ 15488) low ends rs
 
 -- the starts and the sectors are those of the log, whose blocks end where its records do and can be sent
 pub record IsKept (log : Log) (kept : List TermStart) (used : ℕ) : Type 0 where

@@ -11,9 +11,10 @@ use Rattle.ag_model.specs.declared.record.Record.TheVariants.{Put, Del, Commit, 
 use Rattle.ag_model.specs.declared.record.Record.{Record}
 use Rattle.ag_model.specs.Rows.{KeyChange, Table, rows, committed, committed_by, change_by, changed, empty_table}
 use Rattle.ag_model.specs.Page.{value, horizon_by}
-use Rattle.ag_node.specs.Folded.{row_after, row_by_commit, change_of, left_after, left_by, row_with, horizon_after}
+use Rattle.ag_model.specs.Txns.{txn_of, last_txn}
+use Rattle.ag_node.specs.Folded.{txn_after, row_after, row_by_commit, change_of, left_after, left_by, row_with, horizon_after}
 
-fold-flat_map : {A B C : Type 0} (f : B → A → B) (g : C → List A) (b : B) (xs : List C) → fold f b (flat_map g xs) ≡ fold (λ a x. fold f a (g x)) b xs
+pub fold-flat_map : {A B C : Type 0} (f : B → A → B) (g : C → List A) (b : B) (xs : List C) → fold f b (flat_map g xs) ≡ fold (λ a x. fold f a (g x)) b xs
 fold-flat_map f g b [] = refl
 fold-flat_map f g b (x ∷ xs) = fold-append f b (g x) (flat_map g xs) ∙ fold-flat_map f g (fold f b (g x)) xs
 
@@ -82,3 +83,7 @@ left_more key txn i rs r h at =
 pub horizon_folded : (pages : ℕ) (log : List Record) (n page : ℕ) → (value pages log n page).horizon ≡ fold (horizon_after page) 0 (take n log)
 unfolding value
 horizon_folded pages log n page = fold-flat_map max (horizon_by page) 0 (take n log)
+
+-- the greatest transaction number, record by record
+pub txns_folded : (log : List Record) → last_txn log ≡ fold txn_after 0 log
+txns_folded log = fold-flat_map max txn_of 0 log

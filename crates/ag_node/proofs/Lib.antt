@@ -6,7 +6,10 @@ pub mod RoomUsed
 pub mod RoomLog
 pub mod RoomPairs
 pub mod SetFits
+pub mod Whole
+pub mod WholeRoom
 pub mod NodeSteps
 pub mod Rising
 pub mod NodeSets
 pub mod OpeningSteps
+pub mod StartSteps

@@ -19,6 +19,7 @@ use Rattle.ag_rules.specs.Redo.{touched_by, touched_up_to, notes_of, notes_from,
 use Rattle.ag_rules.specs.HardenEvent.{hardened_one, hardens}
 use Rattle.ag_rules.specs.RedoEvent.{redoes, redoes_touching, redone_whole}
 use Rattle.ag_rules.specs.ApplyEvent.{applied_one, applies, applies_touching, touched_in_stripe}
+use Rattle.ag_node.specs.declared.activity.Activity.{Activity}
 use Rattle.ag_node.specs.View.{node_of, kept_of, page_of_flag}
 use Rattle.ag_node.specs.Marked.{set_where, is_of, marked, marked_of, is_touched_after, marked_to_end}
 use Rattle.ag_node.proofs.MarksSteps.{length-set_where}
@@ -61,8 +62,8 @@ sound_blank zero i = refl
 sound_blank (suc n) zero = refl
 sound_blank (suc n) (suc i) = sound_blank n i
 
-not_bad : (leads : Bool) (log : Log) (ss : List Stripe) (ds : List Bool) (leading : Leading) (p : ℕ) → is_bad (node_of leads log ss ds leading) p ≡ false
-not_bad leads log ss ds leading p = ap not (sound_blank (length ds) (p - 16))
+not_bad : (activity : Activity) (log : Log) (ss : List Stripe) (ds : List Bool) (leading : Leading) (p : ℕ) → is_bad (node_of activity log ss ds leading) p ≡ false
+not_bad activity log ss ds leading p = ap not (sound_blank (length ds) (p - 16))
 
 not_pending : (ds : List Bool) (i : ℕ) → (get_or (map page_of_flag ds) i clean_page).pending ≡ false
 not_pending [] i = refl
@@ -75,10 +76,10 @@ not_held (d ∷ ds) zero = refl
 not_held (d ∷ ds) (suc i) = not_held ds i
 
 -- no page is noted
-pub no_notes : (leads : Bool) (log : Log) (ss : List Stripe) (ds : List Bool) (leading : Leading) (touched : List ℕ) → notes_of (node_of leads log ss ds leading) touched ≡ []
-no_notes leads log ss ds leading touched =
-    let r = node_of leads log ss ds leading in
-    ap (notes_from r []) (filter_none (λ p. is_bad r p && not (page r p).pending) touched (λ p. ap (λ (b : Bool). b && not (page r p).pending) (not_bad leads log ss ds leading p)))
+pub no_notes : (activity : Activity) (log : Log) (ss : List Stripe) (ds : List Bool) (leading : Leading) (touched : List ℕ) → notes_of (node_of activity log ss ds leading) touched ≡ []
+no_notes activity log ss ds leading touched =
+    let r = node_of activity log ss ds leading in
+    ap (notes_from r []) (filter_none (λ p. is_bad r p && not (page r p).pending) touched (λ p. ap (λ (b : Bool). b && not (page r p).pending) (not_bad activity log ss ds leading p)))
 
 -- nothing is held, so nothing is installed
 pub nothing_due : (r : Replica) (fs : List Bool) (pages : ℕ) → r.pages ≡ map page_of_flag fs → due_pages pages r ≡ []
@@ -92,16 +93,16 @@ pub installed_none : (r : Replica) → installed [] r ≡ r
 installed_none r = ap (λ (l : List Page). record r { pages = l }) (none_installed 16 r.pages)
 
 -- where the stripe of a page stands
-pub stands : (leads : Bool) (log : Log) (ss : List Stripe) (ds : List Bool) (leading : Leading) (p : ℕ) → applied_of (node_of leads log ss ds leading) p ≡ (get_or ss (stripe_of p) no_stripe).applied
-stands leads log ss ds leading p = refl
+pub stands : (activity : Activity) (log : Log) (ss : List Stripe) (ds : List Bool) (leading : Leading) (p : ℕ) → applied_of (node_of activity log ss ds leading) p ≡ (get_or ss (stripe_of p) no_stripe).applied
+stands activity log ss ds leading p = refl
 
 -- an event goes on at each page
-pub access_is_free : (leads : Bool) (log : Log) (ss : List Stripe) (ds : List Bool) (leading : Leading) (p : ℕ) (part : Part) → access (node_of leads log ss ds leading) p part ≡ part
+pub access_is_free : (activity : Activity) (log : Log) (ss : List Stripe) (ds : List Bool) (leading : Leading) (p : ℕ) (part : Part) → access (node_of activity log ss ds leading) p part ≡ part
 unfolding access
-access_is_free leads log ss ds leading p part =
-    let r = node_of leads log ss ds leading in
+access_is_free activity log ss ds leading p part =
+    let r = node_of activity log ss ds leading in
     let cases : Bool → Bool → List Case = λ pending bad. record { when = pending; part = refused (Pending p) r } ∷ record { when = bad && not (can_note p r.kept.suspects); part = at_once (No (NotNoted p)) (pended r p) } ∷ record { when = bad; part = notes r p } ∷ [] in
-    ap₂ (λ (pending bad : Bool). first_case (cases pending bad) part) (not_pending ds (p - 16)) (not_bad leads log ss ds leading p)
+    ap₂ (λ (pending bad : Bool). first_case (cases pending bad) part) (not_pending ds (p - 16)) (not_bad activity log ss ds leading p)
 
 -- redo
 
@@ -117,13 +118,13 @@ flags_redone r touched test first (d ∷ ds) good same =
     (flags_redone r touched test (first + 1) ds good (λ p l h. same p (omega arith) (omega arith)))
 
 -- the pages that pass a test become dirty, and nothing else changes
-pub redone_where : (leads : Bool) (log : Log) (ss : List Stripe) (ds : List Bool) (leading : Leading) (touched : List ℕ) (test : ℕ → Bool)
-    → ((p : ℕ) → 16 ≤ p → p < 16 + length ds → contains p touched ≡ test p) → redone touched (node_of leads log ss ds leading) ≡ node_of leads log ss (set_where test 16 ds) leading
-redone_where leads log ss ds leading touched test same =
-    let r = node_of leads log ss ds leading in
-    ap₂ (λ (n : ℕ) (l : List Page). record r { kept = kept_of log n; pages = l })
+pub redone_where : (activity : Activity) (log : Log) (ss : List Stripe) (ds : List Bool) (leading : Leading) (touched : List ℕ) (test : ℕ → Bool)
+    → ((p : ℕ) → 16 ≤ p → p < 16 + length ds → contains p touched ≡ test p) → redone touched (node_of activity log ss ds leading) ≡ node_of activity log ss (set_where test 16 ds) leading
+redone_where activity log ss ds leading touched test same =
+    let r = node_of activity log ss ds leading in
+    ap₂ (λ (n : ℕ) (l : List Page). record r { kept = kept_of activity.incarnation log n; pages = l })
     (sym (length-set_where test 16 ds))
-    (flags_redone r touched test 16 ds (not_bad leads log ss ds leading) same)
+    (flags_redone r touched test 16 ds (not_bad activity log ss ds leading) same)
 
 -- the records after an LSN, to the end
 pub after_end : (xs : List Record) (a : ℕ) → after_to a (length xs) xs ≡ drop a xs
@@ -132,45 +133,45 @@ after_end xs a = ap (drop a) (take_all (length xs) xs (omega arith))
 -- harden, redo and apply
 
 -- the node once its buffer is applied
-pub harden_after : (leads : Bool) (log : Log) (ss : List Stripe) (ds : List Bool) (leading : Leading) → hardened_one (length ds) (node_of leads log ss ds leading) ≡ node_of leads log (all_at (length log.records + length leading.buffer)) (marked leading.buffer ds) (record leading { buffer = [] })
-harden_after leads log ss ds leading =
+pub harden_after : (activity : Activity) (log : Log) (ss : List Stripe) (ds : List Bool) (leading : Leading) → hardened_one (length ds) (node_of activity log ss ds leading) ≡ node_of activity log (all_at (length log.records + length leading.buffer)) (marked leading.buffer ds) (record leading { buffer = [] })
+harden_after activity log ss ds leading =
     let test = λ (p : ℕ). list_any (touches (length ds) p) leading.buffer in
     ap (λ (s : Replica). record s { stripes = all_at (length log.records + length leading.buffer); leading = record leading { buffer = [] } })
-    (redone_where leads log ss ds leading (touched_by (length ds) leading.buffer) test (λ p l h. contains-filter test p 16 (length ds) l h))
+    (redone_where activity log ss ds leading (touched_by (length ds) leading.buffer) test (λ p l h. contains-filter test p 16 (length ds) l h))
 
-pub hardens_is : (leads : Bool) (log : Log) (ss : List Stripe) (ds : List Bool) (leading : Leading) →
-    (let r = node_of leads log ss ds leading in hardens (length ds) r (due_pages (length ds) (hardened_one (length ds) r)))
-    ≡ record { answer = Hardened (length log.records + length leading.buffer); writes = (Block_write leading.buffer ∷ []) ∷ []; out = []; after = node_of leads (with_block log leading.buffer) (all_at (length log.records + length leading.buffer)) (marked leading.buffer ds) (record leading { buffer = [] }) }
-hardens_is leads log ss ds leading =
-    let r = node_of leads log ss ds leading in
-    let after = node_of leads log (all_at (length log.records + length leading.buffer)) (marked leading.buffer ds) (record leading { buffer = [] }) in
-    let applied : hardened_one (length ds) r ≡ after = harden_after leads log ss ds leading in
+pub hardens_is : (activity : Activity) (log : Log) (ss : List Stripe) (ds : List Bool) (leading : Leading) →
+    (let r = node_of activity log ss ds leading in hardens (length ds) r (due_pages (length ds) (hardened_one (length ds) r)))
+    ≡ record { answer = Hardened (length log.records + length leading.buffer); writes = (Block_write leading.buffer ∷ []) ∷ []; out = []; after = node_of activity (with_block log leading.buffer) (all_at (length log.records + length leading.buffer)) (marked leading.buffer ds) (record leading { buffer = [] }) }
+hardens_is activity log ss ds leading =
+    let r = node_of activity log ss ds leading in
+    let after = node_of activity log (all_at (length log.records + length leading.buffer)) (marked leading.buffer ds) (record leading { buffer = [] }) in
+    let applied : hardened_one (length ds) r ≡ after = harden_after activity log ss ds leading in
     ap (hardens (length ds) r) (ap (due_pages (length ds)) applied ∙ nothing_due after (marked leading.buffer ds) (length ds) refl)
     ∙ ap₂ (λ (ns : List Write) (s : Replica). writing (Hardened (full_end r)) (each_synced (Block_write leading.buffer ∷ ns ++ [])) [] s)
-    (no_notes leads log ss ds leading (touched_by (length ds) leading.buffer))
+    (no_notes activity log ss ds leading (touched_by (length ds) leading.buffer))
     (installed_none (hardened_one (length ds) r) ∙ applied)
 
 -- the node once redo went to the end
-pub redo_after : (leads : Bool) (log : Log) (ss : List Stripe) (ds : List Bool) (leading : Leading)
-    → redone_whole (touched_up_to (length ds) (length log.records) (node_of leads log ss ds leading)) (node_of leads log ss ds leading) ≡ node_of leads log (all_at (length log.records)) (marked_to_end ss log.records ds) leading
-redo_after leads log ss ds leading =
-    let r = node_of leads log ss ds leading in
+pub redo_after : (activity : Activity) (log : Log) (ss : List Stripe) (ds : List Bool) (leading : Leading)
+    → redone_whole (touched_up_to (length ds) (length log.records) (node_of activity log ss ds leading)) (node_of activity log ss ds leading) ≡ node_of activity log (all_at (length log.records)) (marked_to_end ss log.records ds) leading
+redo_after activity log ss ds leading =
+    let r = node_of activity log ss ds leading in
     let test = λ (p : ℕ). list_any (touches (length ds) p) (after_to (applied_of r p) (length log.records) log.records) in
     ap (λ (s : Replica). record s { stripes = all_at (length log.records) })
-    (redone_where leads log ss ds leading (touched_up_to (length ds) (length log.records) r) (is_touched_after (length ds) ss log.records)
+    (redone_where activity log ss ds leading (touched_up_to (length ds) (length log.records) r) (is_touched_after (length ds) ss log.records)
     (λ p l h. contains-filter test p 16 (length ds) l h ∙ ap (list_any (touches (length ds) p)) (after_end log.records (applied_of r p))))
 
-pub redoes_is : (leads : Bool) (log : Log) (ss : List Stripe) (ds : List Bool) (leading : Leading) →
-    (let r = node_of leads log ss ds leading in redoes_touching (length ds) r (touched_up_to (length ds) (end r) r))
-    ≡ record { answer = Front (length log.records); writes = []; out = []; after = node_of leads log (all_at (length log.records)) (marked_to_end ss log.records ds) leading }
-redoes_is leads log ss ds leading =
-    let r = node_of leads log ss ds leading in
+pub redoes_is : (activity : Activity) (log : Log) (ss : List Stripe) (ds : List Bool) (leading : Leading) →
+    (let r = node_of activity log ss ds leading in redoes_touching (length ds) r (touched_up_to (length ds) (end r) r))
+    ≡ record { answer = Front (length log.records); writes = []; out = []; after = node_of activity log (all_at (length log.records)) (marked_to_end ss log.records ds) leading }
+redoes_is activity log ss ds leading =
+    let r = node_of activity log ss ds leading in
     let touched = touched_up_to (length ds) (length log.records) r in
-    let after = node_of leads log (all_at (length log.records)) (marked_to_end ss log.records ds) leading in
-    let applied : redone_whole touched r ≡ after = redo_after leads log ss ds leading in
+    let after = node_of activity log (all_at (length log.records)) (marked_to_end ss log.records ds) leading in
+    let applied : redone_whole touched r ≡ after = redo_after activity log ss ds leading in
     ap (redoes r (redone_whole touched r) touched) (ap (due_pages (length ds)) applied ∙ nothing_due after (marked_to_end ss log.records ds) (length ds) refl)
     ∙ ap₂ (λ (ns : List Write) (s : Replica). writing (Front (length log.records)) (each_synced (ns ++ [])) [] s)
-    (no_notes leads log ss ds leading touched)
+    (no_notes activity log ss ds leading touched)
     (installed_none (redone_whole touched r) ∙ applied)
 
 -- a test of those that passed another one
@@ -197,29 +198,29 @@ in_stripe ss pages x high p rs = elim (eqb_tells (stripe_of p) x) [
 ]
 
 -- the node once a stripe went to an LSN
-pub apply_after : (leads : Bool) (log : Log) (ss : List Stripe) (ds : List Bool) (leading : Leading) (x high : ℕ)
-    → (let r = node_of leads log ss ds leading in applied_one (touched_in_stripe (length ds) r x high) r x high)
-    ≡ node_of leads log (set ss x (record (get_or ss x no_stripe) { applied = high })) (marked_of (Some x) (after_to (get_or ss x no_stripe).applied high log.records) ds) leading
-apply_after leads log ss ds leading x high =
-    let r = node_of leads log ss ds leading in
+pub apply_after : (activity : Activity) (log : Log) (ss : List Stripe) (ds : List Bool) (leading : Leading) (x high : ℕ)
+    → (let r = node_of activity log ss ds leading in applied_one (touched_in_stripe (length ds) r x high) r x high)
+    ≡ node_of activity log (set ss x (record (get_or ss x no_stripe) { applied = high })) (marked_of (Some x) (after_to (get_or ss x no_stripe).applied high log.records) ds) leading
+apply_after activity log ss ds leading x high =
+    let r = node_of activity log ss ds leading in
     let touched = λ (p : ℕ). list_any (touches (length ds) p) (after_to (applied_of r p) high log.records) in
     let new = after_to (get_or ss x no_stripe).applied high log.records in
     ap (λ (s : Replica). record s { stripes = set ss x (record (get_or ss x no_stripe) { applied = high }) })
-    (redone_where leads log ss ds leading (touched_in_stripe (length ds) r x high) (λ p. is_of (Some x) p && list_any (touches (length ds) p) new)
+    (redone_where activity log ss ds leading (touched_in_stripe (length ds) r x high) (λ p. is_of (Some x) p && list_any (touches (length ds) p) new)
     (λ p l h. contains-filter-filter (λ q. stripe_of q == x) p (filter touched (page_numbers (length ds)))
     ∙ ap (λ (b : Bool). (stripe_of p == x) && b) (contains-filter touched p 16 (length ds) l h)
     ∙ in_stripe ss (length ds) x high p log.records))
 
-pub applies_is : (leads : Bool) (log : Log) (ss : List Stripe) (ds : List Bool) (leading : Leading) (x high : ℕ) →
-    (let r = node_of leads log ss ds leading in applies_touching (length ds) r x high (touched_in_stripe (length ds) r x high))
-    ≡ record { answer = Applied high; writes = []; out = []; after = node_of leads log (set ss x (record (get_or ss x no_stripe) { applied = high })) (marked_of (Some x) (after_to (get_or ss x no_stripe).applied high log.records) ds) leading }
-applies_is leads log ss ds leading x high =
-    let r = node_of leads log ss ds leading in
+pub applies_is : (activity : Activity) (log : Log) (ss : List Stripe) (ds : List Bool) (leading : Leading) (x high : ℕ) →
+    (let r = node_of activity log ss ds leading in applies_touching (length ds) r x high (touched_in_stripe (length ds) r x high))
+    ≡ record { answer = Applied high; writes = []; out = []; after = node_of activity log (set ss x (record (get_or ss x no_stripe) { applied = high })) (marked_of (Some x) (after_to (get_or ss x no_stripe).applied high log.records) ds) leading }
+applies_is activity log ss ds leading x high =
+    let r = node_of activity log ss ds leading in
     let touched = touched_in_stripe (length ds) r x high in
     let flags = marked_of (Some x) (after_to (get_or ss x no_stripe).applied high log.records) ds in
-    let after = node_of leads log (set ss x (record (get_or ss x no_stripe) { applied = high })) flags leading in
-    let applied : applied_one touched r x high ≡ after = apply_after leads log ss ds leading x high in
+    let after = node_of activity log (set ss x (record (get_or ss x no_stripe) { applied = high })) flags leading in
+    let applied : applied_one touched r x high ≡ after = apply_after activity log ss ds leading x high in
     ap (applies r (applied_one touched r x high) touched high) (ap (filter (λ p. stripe_of p == x)) (ap (due_pages (length ds)) applied ∙ nothing_due after flags (length ds) refl))
     ∙ ap₂ (λ (ns : List Write) (s : Replica). writing (Applied high) (each_synced (ns ++ [])) [] s)
-    (no_notes leads log ss ds leading touched)
+    (no_notes activity log ss ds leading touched)
     (installed_none (applied_one touched r x high) ∙ applied)

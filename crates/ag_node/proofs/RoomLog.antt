@@ -27,10 +27,10 @@ use Rattle.ag_node.proofs.RoomUsed.{bytes_on, taken_on_cons, used_on, used_lengt
 abbrev pub KnownTo : ℕ → List Record → Type 0
 KnownTo last log = AllByRecursion (λ (r : Record). AllByRecursion (λ t. t ≤ last) (txn_of r)) log
 
-eqb_turn : (a b : ℕ) → (a == b) ≡ (b == a)
+pub eqb_turn : (a b : ℕ) → (a == b) ≡ (b == a)
 eqb_turn a b = grind (arith, nat_tests)
 
-eqb_self : (a : ℕ) → (a == a) ≡ true
+pub eqb_self : (a : ℕ) → (a == a) ≡ true
 eqb_self a = grind (arith, nat_tests)
 
 numbers_append : (n : ℕ) (xs ys : List Record) → enumerate_from n (xs ++ ys) ≡ enumerate_from n xs ++ enumerate_from (n + length xs) ys
@@ -93,7 +93,7 @@ commit_after t last n (Trim page horizon ∷ log) new k h some low = commit_afte
 commit_after t last n (Term term ∷ log) new k h some low = commit_after t last (n + 1) log new k.1 h some (omega arith)
 
 -- the version that a change makes with this commit, unless it is aborted
-abbrev made : Bool → ℕ → ℕ → ℕ → ℕ → Change → List Version
+abbrev pub made : Bool → ℕ → ℕ → ℕ → ℕ → Change → List Version
 made aborted commit lsn txn key change = if aborted then [] else record { lsn = lsn; txn = txn; commit = commit; key = key; change = change } ∷ []
 
 -- what a log makes of the transactions that it knew stays
@@ -132,10 +132,10 @@ versions_after pages page last txn log pairs listed k h =
     (versions_stay pages page last 1 log (log ++ new) log k
     (λ lsn t key change low. version_stays log new lsn t key change (no_abort_in_new t txn pairs listed) (λ m. commit_of_other t txn m pairs listed (λ e. omega arith))))
 
-abbrev is_uncommitted : Version → Bool
+abbrev pub is_uncommitted : Version → Bool
 is_uncommitted v = v.commit == 0
 
-one_committed : (here aborted : Bool) (commit lsn txn key : ℕ) (change : Change) → (commit == 0) ≡ false → list_any is_uncommitted (if here then made aborted commit lsn txn key change else []) ≡ false
+pub one_committed : (here aborted : Bool) (commit lsn txn key : ℕ) (change : Change) → (commit == 0) ≡ false → list_any is_uncommitted (if here then made aborted commit lsn txn key change else []) ≡ false
 one_committed false aborted commit lsn txn key change c = refl
 one_committed true true commit lsn txn key change c = refl
 one_committed true false commit lsn txn key change c = or-false _ ∙ c
@@ -148,7 +148,7 @@ added_committed pages page n txn all (pair ∷ pairs) listed c =
     ∙ ap (λ b. b || list_any is_uncommitted (added pages page (n + 1) all txn pairs listed)) (one_committed (page == page_of pages pair.key) (list_any (is_abort_of txn) all) _ n txn pair.key (PutChange pair.value) c)
     ∙ added_committed pages page (n + 1) txn all pairs listed c
 
-one_size : (here aborted : Bool) (commit lsn txn key : ℕ) (pair : Pair) → aborted ≡ false → versions_size (if here then made aborted commit lsn txn key (PutChange pair.value) else []) ≡ (if here then pair_size pair else 0)
+pub one_size : (here aborted : Bool) (commit lsn txn key : ℕ) (pair : Pair) → aborted ≡ false → versions_size (if here then made aborted commit lsn txn key (PutChange pair.value) else []) ≡ (if here then pair_size pair else 0)
 one_size false aborted commit lsn txn key pair a = refl
 one_size true true commit lsn txn key pair a = absurd (false≢true (sym a))
 one_size true false commit lsn txn key pair a = zero-add _
@@ -163,11 +163,11 @@ added_size pages page n txn all (pair ∷ pairs) listed a =
     ∙ ap (λ x. bytes_on pages page pair + x) (added_size pages page (n + 1) txn all pairs listed a)
     ∙ sym (taken_on_cons pages page pair pairs)
 
-all_map : {X : Type 0} (P Q : X → Type 0) → ((x : X) → P x → Q x) → (xs : List X) → AllByRecursion P xs → AllByRecursion Q xs
+pub all_map : {X : Type 0} (P Q : X → Type 0) → ((x : X) → P x → Q x) → (xs : List X) → AllByRecursion P xs → AllByRecursion Q xs
 all_map P Q f [] p = tt
 all_map P Q f (x ∷ xs) p = (f x p.0, all_map P Q f xs p.1)
 
-all_append : {X : Type 0} (P : X → Type 0) (xs ys : List X) → AllByRecursion P xs → AllByRecursion P ys → AllByRecursion P (xs ++ ys)
+pub all_append : {X : Type 0} (P : X → Type 0) (xs ys : List X) → AllByRecursion P xs → AllByRecursion P ys → AllByRecursion P (xs ++ ys)
 all_append P [] ys p q = q
 all_append P (x ∷ xs) ys p q = (p.0, all_append P xs ys p.1 q)
 

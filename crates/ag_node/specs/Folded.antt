@@ -7,6 +7,7 @@ use Rattle.ag_model.specs.declared.record.Record.{Record}
 use Rattle.ag_model.specs.declared.record.Record.TheVariants.{Put, Del, Commit, Abort, Trim, Term}
 use Rattle.ag_model.specs.Rows.{KeyChange, committed_by}
 use Rattle.ag_model.specs.Page.{horizon_by}
+use Rattle.ag_model.specs.Txns.{txn_of}
 
 -- the row of a key after one change
 abbrev pub row_after : ℕ → Row → KeyChange → Row
@@ -42,3 +43,7 @@ row_with left row _ = row
 -- the horizon of a page after one record
 abbrev pub horizon_after : ℕ → ℕ → Record → ℕ
 horizon_after page horizon r = fold max horizon (horizon_by page r)
+
+-- the greater of a transaction number and that of a record, if it has one
+abbrev pub txn_after : ℕ → Record → ℕ
+txn_after last r = fold max last (txn_of r)

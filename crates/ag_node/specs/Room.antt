@@ -1,8 +1,8 @@
 -- The room that `set` needs, told by the bytes used on each page.
-use Rattle.std.specs.Prelude.{◌≡◌, ℕ, ◌+◌, ◌-◌, ◌%◌, ◌<◌, ◌≤◌, List, [], ◌∷◌, ◌++◌, length, get_or, set, Bool, true, false, if◌then◌else◌, ◌==◌, nat_lt, Option, Some, None}
+use Rattle.std.specs.Prelude.{◌≡◌, ℕ, ◌+◌, ◌-◌, ◌%◌, ◌<◌, ◌≤◌, List, [], ◌∷◌, ◌++◌, length, replicate, get_or, set, Bool, true, false, if◌then◌else◌, ◌==◌, nat_lt, Option, Some, None}
 use Rattle.std.specs.List.{AllByRecursion, fold, list_any}
 use Rattle.ag_model.specs.declared.record.Record.{Record}
-use Rattle.ag_model.specs.declared.record.Record.TheVariants.{Trim}
+use Rattle.ag_model.specs.declared.record.Record.TheVariants.{Put, Trim}
 use Rattle.ag_model.specs.declared.event.Pair.{Pair}
 use Rattle.ag_model.specs.declared.answer.Refusal.{Refusal}
 use Rattle.ag_model.specs.declared.answer.Refusal.TheVariants.{PageFull}
@@ -34,6 +34,15 @@ spent pages used pair = set used (pair.key % pages) (get_or used (pair.key % pag
 -- the bytes used once these pairs are set
 abbrev pub used_after : ℕ → List Pair → List ℕ → List ℕ
 used_after pages pairs used = fold (spent pages) used pairs
+
+-- the bytes used on each page once a Put of a record is there
+abbrev pub used_by : ℕ → List ℕ → Record → List ℕ
+used_by pages used (Put txn key value) = spent pages used (record { key = key; value = value })
+used_by pages used _ = used
+
+-- the bytes that the Puts of a log use on each page
+abbrev pub used_in : ℕ → List Record → List ℕ
+used_in pages log = fold (used_by pages) (replicate pages 0) log
 
 -- the bytes that the page of a pair has free, after the earlier pairs
 abbrev pub room_left : ℕ → List ℕ → List Pair → Pair → ℕ

@@ -1,6 +1,7 @@
 //! One replica: what each event does there.
 #![tactic(auto)]
 
+mod activity;
 mod listed;
 mod marks;
 pub mod node;
@@ -10,3 +11,4 @@ mod room;
 mod rows;
 pub mod site;
 mod stripes;
+mod txns;

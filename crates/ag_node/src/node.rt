@@ -1,5 +1,5 @@
 //! One replica.
-ghost use Rattle.std.specs.Prelude.{length, List, ◌≡◌, ◌∷◌, [], IfOk, false, true};
+ghost use Rattle.std.specs.Prelude.{length, List, ◌≡◌, ◌∷◌, [], IfOk, false, not, ◌==◌, ◌||◌};
 ghost use Rattle.ag_model.specs.declared.record.Record.{Record};
 ghost use Rattle.ag_model.specs.Sizes.{records_size};
 ghost use Rattle.ag_rules.specs.Replica.{end, front, is_reverting};
@@ -10,7 +10,9 @@ ghost use Rattle.ag_node.specs.Nodes.{IsRefusedBy};
 
 mod following;
 mod leading;
+mod starting;
 
+use crate::activity::Activity;
 use crate::opening::{clean, known_at_opening, unused};
 use crate::peer::PeerState;
 use crate::site::Site;
@@ -27,10 +29,10 @@ use std::marker::Model;
 /// The term of the opening, in which every node is.
 const TERM: u64 = 1;
 
-/// One replica, which a contract sees as the replica of the rules. It has been up since the opening, in the first term.
+/// One replica, which a contract sees as the replica of the rules. It is in the first term.
 #[derive(Drop)]
 pub struct Node {
-    leads: bool,
+    activity: Activity,
     log: HardenedLog,
     stripes: Stripes,
     /// One flag a data page.
@@ -53,9 +55,9 @@ impl Model for Node {
 
     ghost Value = { Replica };
 
-    ghost view = { λ n. node_of n.leads n.log n.stripes n.dirty.items (leading_of n.buffer n.last_txn n.synced n.peers.items) };
+    ghost view = { λ n. node_of n.activity n.log n.stripes n.dirty.items (leading_of n.buffer n.last_txn n.synced n.peers.items) };
 
-    ghost invariant = { λ n. IsNode n.leads n.log n.stripes (length n.dirty.items) n.buffer n.buffered n.last_txn n.used.items };
+    ghost invariant = { λ n. IsNode n.activity n.log n.stripes (length n.dirty.items) n.buffer n.buffered n.last_txn n.used.items };
 }
 
 impl Node {
@@ -63,7 +65,7 @@ impl Node {
     pub fn term(&self) -> u64
         ensures { result ≡ self.now.term }
     {
-        let _ = &self.leads;
+        let _ = &self.activity;
         TERM
     }
 
@@ -71,20 +73,24 @@ impl Node {
     pub fn is_up(&self) -> bool
         ensures { result ≡ self.now.up }
     {
-        let _ = &self.leads;
-        true
+        self.activity.up
     }
 
     /// Whether it is primary.
     fn leads(&self) -> bool
         ensures is { result ≡ self.now.leads }
-        ensures up { self.now.up ≡ true }
         ensures term { self.now.term ≡ 1 }
         ensures steady { is_reverting self.now.state ≡ false }
-        ensures follows { self.now.leads ≡ false → self.now.state ≡ 1 }
-        ensures leading { self.now.leads ≡ true → self.now.state ≡ 0 }
     {
-        self.leads
+        self.activity.leads
+    }
+
+    /// Whether blocks of its primary are hardened here.
+    fn follows(&self) -> bool
+        ensures is { result ≡ (self.now.state == 1) }
+        ensures other { ((self.now.state == 0) || (self.now.state == 3)) ≡ not result }
+    {
+        self.activity.follows
     }
 
     /// Where its hardened log ends, an LSN.
@@ -121,8 +127,14 @@ impl Node {
         ensures pages { IfOk result (λ node. length node.pages ≡ config.now.pages) }
     {
         let (synced, peers) = known_at_opening(alloc, config.modes.as_slice(), leads)?;
-        Ok(Node {
+        let activity = Activity {
+            up: true,
             leads,
+            follows: !leads,
+            incarnation: 1,
+        };
+        Ok(Node {
+            activity,
             log: HardenedLog::opening(alloc)?,
             stripes: Stripes::all_at(1),
             dirty: clean(alloc, config.pages)?,
@@ -134,6 +146,13 @@ impl Node {
             used: unused(alloc, config.pages)?,
         })
     }
+}
+
+/// The refusal of a replica that is down.
+fn down(site: &Site) -> Answer
+    ensures { result ≡ Answer.No (Refusal.Down site.now.number) }
+{
+    Answer::No(Refusal::Down { node: site.number })
 }
 
 /// The refusal of a replica that isn't primary.

@@ -1,5 +1,6 @@
 //! What a primary knows at the opening.
 ghost use Rattle.std.specs.Prelude.{◌≡◌, ◌++◌, [], map, replicate, false, if◌then◌else◌, IfOk, OnOk};
+ghost use Rattle.ag_rules.specs.Replica.{no_peer};
 ghost use Rattle.ag_rules.specs.Group.{is_waited_for, waited_for, synced_at_opening, opening_peers};
 ghost use Rattle.ag_node.specs.Nodes.{at_opening};
 
@@ -101,6 +102,22 @@ fn opening_peers(alloc: Global, modes: &[Mode]) -> Result<Vec<PeerState>, NoMemo
             Ok(peers)
         }
     }
+}
+
+/// What a primary knows of so many replicas at its start: nothing.
+pub(crate) fn strangers(alloc: Global, count: usize) -> Result<Vec<PeerState>, NoMemory>
+    ensures { IfOk result (λ peers. peers.items ≡ replicate count no_peer) }
+{
+    let mut peers = Vec::new(alloc);
+    for _ in 0..count {
+        peers.push(PeerState {
+            connected: false,
+            next: 0,
+            hardened: 0,
+            low: 0,
+        })?;
+    }
+    Ok(peers)
 }
 
 /// Adds what the primary knows of its secondaries.

@@ -1,12 +1,16 @@
 //! The room that `set` needs, told by the bytes used on each page.
-ghost use Rattle.std.specs.Prelude.{◌≡◌, ℕ, ◌+◌, ◌-◌, ◌%◌, ◌<◌, ◌≤◌, [], length, None, get_or};
+ghost use Rattle.std.specs.Prelude.{◌≡◌, ℕ, ◌+◌, ◌-◌, ◌%◌, ◌<◌, ◌≤◌, [], length, None, get_or, IfOk, OnOk};
 ghost use Rattle.std.specs.List.{All};
 ghost use Rattle.ag_model.specs.Rows.{page_of};
 ghost use Rattle.ag_rules.specs.SetEvent.{pair_size, taken_on};
-ghost use Rattle.ag_node.specs.Room.{used_after, room_left, first_full};
+ghost use Rattle.ag_node.specs.Room.{used_after, used_by, used_in, room_left, first_full};
 
+use crate::opening::unused;
 use ag_model::answer::Refusal;
 use ag_model::event::Pair;
+use ag_model::record::Record;
+use ag_model::value::NoMemory;
+use std::alloc::Global;
 
 /// The bytes that the versions of a page may take.
 const PAGE_ROOM: u32 = 8144;
@@ -86,6 +90,40 @@ pub(crate) fn spend(pages: u16, used: &mut [u32], pairs: &[Pair])
     for pair in pairs {
         used[slot_of(pages, pair.key)] += pair_size(pair);
     }
+}
+
+/// The bytes that the Puts of a log use on each page. More than a page has room for comes in no run, and is answered by
+/// want of memory.
+pub(crate) fn used_in(alloc: Global, pages: u16, log: &[Record]) -> Result<Vec<u32>, NoMemory>
+    requires some { 0 < pages }
+    ensures used { IfOk result (λ used. used.items ≡ used_in pages log.now) }
+    ensures small { IfOk result (λ used. All (λ bytes. bytes ≤ 8144) used.items) }
+{
+    let mut used = unused(alloc, pages)?;
+    for entry in log {
+        count(pages, used.as_mut_slice(), entry)?;
+    }
+    Ok(used)
+}
+
+/// Counts the bytes of a Put on its page.
+fn count(pages: u16, used: &mut [u32], entry: &Record) -> Result<(), NoMemory>
+    requires some { 0 < pages }
+    requires each_page { length used.old ≡ pages }
+    requires small { All (λ bytes. bytes ≤ 8144) used.old }
+    ensures ok { OnOk result (used.new ≡ used_by pages used.old entry.now) }
+    ensures small { All (λ bytes. bytes ≤ 8144) used.new }
+{
+    let Record::Put { txn: _, key, value } = entry else {
+        return Ok(());
+    };
+    let slot = slot_of(pages, *key);
+    let bytes = used[slot].saturating_add(30 + u32::from(value.len));
+    if bytes > PAGE_ROOM {
+        return Err(NoMemory);
+    }
+    used[slot] = bytes;
+    Ok(())
 }
 
 #[cfg(test)]

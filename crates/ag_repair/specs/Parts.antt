@@ -1,8 +1,8 @@
 -- What an event does by these answers.
-use Rattle.std.specs.Prelude.{ℕ, [], ◌∷◌, Bool, ◌==◌, if◌then◌else◌}
+use Rattle.std.specs.Prelude.{ℕ, [], ◌∷◌, Bool, if◌then◌else◌}
 use Rattle.ag_model.specs.declared.answer.Answer.TheVariants.{Gave, Refused}
 use Rattle.ag_model.specs.declared.answer.Refusal.TheVariants.{LinkFull, Nothing as NothingRefusal, Wait as WaitRefusal}
-use Rattle.ag_rules.specs.Replica.{Replica, applied_of}
+use Rattle.ag_rules.specs.Replica.{Replica, takes_foreign, applied_of}
 use Rattle.ag_rules.specs.Plan.{Here, Part, refused, sending}
 use Rattle.ag_rules.specs.PageAskMessage.{no_page, given_page}
 use Rattle.ag_rules.specs.PageGiveMessage.{comes, installs, holds}
@@ -24,6 +24,6 @@ part_of_giving (Wait stands asked) h n r full p = refused (WaitRefusal stands as
 
 -- what a PageGive does
 abbrev pub part_of_arrival : Arrival → Replica → ℕ → ℕ → Part
-part_of_arrival Install r p lsn = if r.state == 3 then comes r p lsn else installs r p lsn
+part_of_arrival Install r p lsn = if takes_foreign r.state then comes r p lsn else installs r p lsn
 part_of_arrival Hold r p lsn = holds r p lsn
 part_of_arrival NotWanted r p lsn = refused NothingRefusal r

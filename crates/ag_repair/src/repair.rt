@@ -1,7 +1,7 @@
 //! The repair of a page, and the foreign pages of a replica that reverts.
 ghost use Rattle.std.specs.Prelude.{◌≡◌, ◌≢◌, ◌↔◌, ◌<◌, ◌≤◌, ◌⊎◌, true, false, IsTrue};
-ghost use Rattle.ag_rules.specs.Replica.{is_reverting};
-ghost use Rattle.ag_repair.specs.Pages.{wanted_of, giving_of, arrival_of};
+ghost use Rattle.ag_rules.specs.Replica.{is_reverting, wanted_of};
+ghost use Rattle.ag_repair.specs.Pages.{giving_of, arrival_of};
 
 /// What a replica does that is asked for a page.
 #[derive(Clone, Copy, Debug, PartialEq, Eq)]

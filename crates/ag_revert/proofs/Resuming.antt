@@ -9,12 +9,12 @@ use Rattle.ag_model.specs.Rows.{contains, page_numbers}
 use Rattle.ag_model.proofs.PageSets.{pages_where-below}
 use Rattle.ag_master.specs.declared.master.Master.{Master}
 use Rattle.ag_rules.specs.Replica.{Replica, records, end}
-use Rattle.ag_rules.specs.ResumeMessage.{foreign_from, goes_on, reverting_master}
+use Rattle.ag_rules.specs.ResumeMessage.{foreign_from, still_initialises, goes_on, reverting_master}
 use Rattle.ag_revert.specs.declared.plans.Plan.{Plan}
 use Rattle.ag_revert.specs.declared.plans.Plan.TheVariants.{Follow, Revert, Continue}
 use Rattle.ag_revert.specs.Touched.{touched_after}
-use Rattle.ag_revert.specs.Planned.{union, still_initialises, reverting, changes, planned}
-use Rattle.ag_revert.specs.Resumed.{rule_master, IsMasterOf, AreBelow, IsDone}
+use Rattle.ag_revert.specs.Planned.{union, rule_master, reverting, changes, planned}
+use Rattle.ag_revert.specs.Resumed.{IsMasterOf, AreBelow, IsDone}
 use Rattle.ag_revert.proofs.Starts.{if_has}
 use Rattle.ag_revert.proofs.Touches.{foreign_agrees}
 
@@ -39,7 +39,7 @@ module _ (pages n term fork undo : ℕ) (r : Replica) (m : Master) (few : pages 
       ∙ ap (λ ps. filter (λ p. contains p ps || contains p (touched_after pages (records r) fork)) (page_numbers pages)) h.foreign
       ∙ sym (foreign_agrees pages fork r few)
 
-  still : still_initialises m (end r) term fork ≡ goes_on r term fork
+  still : still_initialises m.state m.term (end r) term fork ≡ goes_on r term fork
   still = same_test (m.state == 4) (r.state == 4) m.term r.term term (fork == end r) h.initialising h.term
 
   same_master : (foreign : List ℕ) → rule_master (reverting m (end r) term fork undo foreign) ≡ reverting_master r term fork undo foreign

@@ -3,14 +3,10 @@ use Rattle.std.specs.Prelude.{◌≡◌, ℕ, ◌+◌, ◌≤◌, ◌<◌, List,
 use Rattle.ag_model.specs.Rows.{contains}
 use Rattle.ag_master.specs.declared.master.Master.{Master}
 use Rattle.ag_rules.specs.Replica.{Replica}
-use Rattle.ag_rules.specs.Replica.{Master as RuleMaster}
 use Rattle.ag_rules.specs.ResumeMessage.{foreign_from, goes_on, resumes, stays, follows_from, reverts_from, reverting_master}
 use Rattle.ag_revert.specs.declared.plans.Plan.{Plan}
 use Rattle.ag_revert.specs.declared.plans.Plan.TheVariants.{Follow, Revert, Continue}
-
--- what the rules say of a master
-abbrev pub rule_master : Master → RuleMaster
-rule_master m = record { term = m.term; state = m.state; incarnation = m.incarnation; redo_start = m.redo; undo = m.undo; foreign = m.foreign }
+use Rattle.ag_revert.specs.Planned.{rule_master}
 
 -- a master that says of a replica what the replica keeps, and whether it is initialising, and then in which term
 pub record IsMasterOf (r : Replica) (m : Master) : Type 0 where

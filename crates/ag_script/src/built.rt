@@ -24,7 +24,10 @@ pub(crate) fn is_built(event: &Event) -> bool
         | Event::Apply { node, suffix, .. }
         | Event::Raise { node, suffix, .. }
         | Event::Redo { node, suffix }
-        | Event::Read { node, suffix, .. } => is_letter(node) && *suffix == Suffix::Whole,
+        | Event::Read { node, suffix, .. }
+        | Event::Crash { node, suffix }
+        | Event::Start { node, suffix }
+        | Event::Status { node, suffix } => is_letter(node) && *suffix == Suffix::Whole,
         Event::Send { node, to, suffix }
         | Event::Deliver {
             node,

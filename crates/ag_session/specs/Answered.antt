@@ -1,5 +1,5 @@
 -- What a session is answered that asks replica after replica.
-use Rattle.std.specs.Prelude.{◌≡◌, ◌≤◌, ℕ, List, [], ◌∷◌, ◌++◌, Option, Some, Result, Ok, Err}
+use Rattle.std.specs.Prelude.{ℕ, List, [], ◌∷◌, ◌++◌, Option, Some, Result, Ok, Err}
 use Rattle.ag_model.specs.declared.config.Token.{Token}
 use Rattle.ag_rules.specs.Seen.{SeenLsn}
 use Rattle.ag_session.specs.declared.session.SessionFault.{SessionFault}
@@ -19,11 +19,6 @@ token_left t (Err fault) = t
 abbrev pub answered : Option Token → List Token → List Token
 answered t [] = []
 answered t (a ∷ asked) = given (checked t a.term a.lsn) ++ answered (token_left t (checked t a.term a.lsn)) asked
-
--- the later one is of a higher term, or not below in the same one
-pub record Reaches (seen later : Token) : Type 0 where
-  pub term : seen.term ≤ later.term
-  pub lsn : seen.term ≡ later.term → seen.lsn ≤ later.lsn
 
 -- what a session saw, as in a run
 abbrev pub seen_by : ℕ → Token → SeenLsn

@@ -7,9 +7,9 @@ ghost use Rattle.ag_model.specs.declared.value.Value.{Value};
 ghost use Rattle.ag_model.specs.declared.answer.Answer.TheVariants.{Row, Absent, Snap};
 ghost use Rattle.ag_rules.specs.Checks.{token_or_none};
 ghost use Rattle.ag_rules.specs.Next.{token_after};
-ghost use Rattle.ag_rules.specs.SessionLaw.{NeverFalls};
+ghost use Rattle.ag_rules.specs.SessionLaw.{Reaches, NeverFalls};
 ghost use Rattle.ag_session.specs.Checked.{checked};
-ghost use Rattle.ag_session.specs.Answered.{Reaches, answered, seen_by};
+ghost use Rattle.ag_session.specs.Answered.{answered, seen_by};
 
 /// What a session is answered never falls, whichever replicas it asks: the terms never fall, and in one term the LSNs
 /// never fall.

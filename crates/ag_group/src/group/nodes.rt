@@ -10,6 +10,9 @@ ghost use Rattle.ag_rules.specs.ApplyEvent.{apply_part};
 ghost use Rattle.ag_rules.specs.RaiseEvent.{raise_part};
 ghost use Rattle.ag_rules.specs.RedoEvent.{redo_part};
 ghost use Rattle.ag_rules.specs.ReadEvent.{read_part};
+ghost use Rattle.ag_rules.specs.CrashEvent.{crash_part};
+ghost use Rattle.ag_rules.specs.StartEvent.{start_part};
+ghost use Rattle.ag_rules.specs.LookEvent.{status_part};
 ghost use Rattle.ag_rules.specs.Next.{at_session, token, token_after};
 ghost use Rattle.ag_rules.specs.Checks.{token_or_none};
 
@@ -91,6 +94,44 @@ impl Group {
         let site = self.site(n);
         let node = &mut self.nodes[usize::from(n)];
         node.redo(&site)
+    }
+
+    /// `crash`: all is lost but what the node keeps.
+    #[tactic(auto, unfolding(ag_rules::specs::CrashEvent::crash_part))]
+    pub(super) fn crash(&mut self, alloc: Global, n: u8) -> Answer
+        requires node { n < length self.old.config.modes }
+        ensures answer { result ≡ (at_node self.old n (crash_part (here self.old n) (replica self.old n))).answer }
+        ensures after { self.new ≡ (at_node self.old n (crash_part (here self.old n) (replica self.old n))).after }
+        ensures config { self.new.config ≡ self.old.config }
+    {
+        let site = self.site(n);
+        let node = &mut self.nodes[usize::from(n)];
+        node.crash(alloc, &site)
+    }
+
+    /// `start`: a node comes up, as primary exactly where the store names it.
+    pub(super) fn start(&mut self, alloc: Global, n: u8) -> Result<Answer, NoMemory>
+        requires node { n < length self.old.config.modes }
+        ensures answer { IfOk result (λ a. a ≡ (at_node self.old n (start_part (here self.old n) (replica self.old n))).answer) }
+        ensures after { OnOk result (self.new ≡ (at_node self.old n (start_part (here self.old n) (replica self.old n))).after) }
+        ensures config { OnOk result (self.new.config ≡ self.old.config) }
+    {
+        let site = self.site(n);
+        let node = &mut self.nodes[usize::from(n)];
+        let answer = node.start(alloc, &site, self.config.modes.as_slice())?;
+        Ok(answer)
+    }
+
+    /// `status`: what a node says of itself.
+    #[tactic(auto, unfolding(ag_rules::specs::LookEvent::status_part))]
+    pub(super) fn status(&self, n: u8) -> Answer
+        requires node { n < length self.now.config.modes }
+        ensures answer { result ≡ (at_node self.now n (status_part (here self.now n) (replica self.now n))).answer }
+        ensures left { (at_node self.now n (status_part (here self.now n) (replica self.now n))).after ≡ self.now }
+    {
+        let site = self.site(n);
+        let node = &self.nodes[usize::from(n)];
+        node.status(&site)
     }
 
     /// `read`: the row at the front of a replica, for a session.

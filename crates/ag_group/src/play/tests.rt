@@ -27,7 +27,7 @@ fn played(
 const HEADER: &[u8] = b"aglab 1 pages=16 replicas=sync,sync\n";
 
 /// The answers of a text without its head, where it is played to its end.
-fn answers(alloc: Global, events: &[u8]) -> Result<Vec<u8>, Fail> {
+pub(super) fn answers(alloc: Global, events: &[u8]) -> Result<Vec<u8>, Fail> {
     let mut text = Vec::from_slice(alloc, b"---\n")?;
     text.extend_from_slice(events)?;
     let (status, out) = played(alloc, &text, &[], &[])?;
@@ -110,7 +110,12 @@ fn reads_at_the_least_stripe(rt: HostRuntime) -> Result<(), Fail> {
 }
 
 /// Adds a line that sets a key of A to a value of so many bytes.
-fn push_set(alloc: Global, text: &mut Vec<u8>, key: usize, bytes: usize) -> Result<(), AllocError> {
+pub(super) fn push_set(
+    alloc: Global,
+    text: &mut Vec<u8>,
+    key: usize,
+    bytes: usize,
+) -> Result<(), AllocError> {
     text.extend_from_slice(b"set A ".as_slice())?;
     text.extend_from_slice(key.to_string(alloc)?.as_bytes())?;
     text.push(b' ')?;
@@ -125,7 +130,12 @@ fn push_set(alloc: Global, text: &mut Vec<u8>, key: usize, bytes: usize) -> Resu
 }
 
 /// Adds a line of a word and a number.
-fn push_number(alloc: Global, text: &mut Vec<u8>, word: &[u8], n: usize) -> Result<(), AllocError> {
+pub(super) fn push_number(
+    alloc: Global,
+    text: &mut Vec<u8>,
+    word: &[u8],
+    n: usize,
+) -> Result<(), AllocError> {
     text.extend_from_slice(word)?;
     text.extend_from_slice(n.to_string(alloc)?.as_bytes())?;
     text.push(b'\n')?;

@@ -11,13 +11,14 @@ ghost use Rattle.ag_rules.specs.ReadEvent.{read_part, reads_at, row_answer};
 ghost use Rattle.ag_rules.specs.Messages.{ack_message};
 ghost use Rattle.ag_rules.specs.BlockMessage.{block_part};
 ghost use Rattle.ag_built.specs.Built.{IsBuiltMessage};
+ghost use Rattle.ag_built.specs.Whole.{IsWhole};
 ghost use Rattle.ag_record.specs.Spelling.{ArePayload};
 ghost use Rattle.ag_wire.specs.Spelling.{IsBlock};
 ghost use Rattle.ag_node.specs.Out.{posting_of};
 ghost use Rattle.ag_node.specs.Sites.{here_at};
 ghost use Rattle.ag_node.specs.Nodes.{IsRefusedBy};
 
-use super::{Node, TERM};
+use super::{Node, TERM, down};
 use crate::marks::{mark, mark_to_end};
 use crate::rows::{horizon_at, row_at};
 use crate::site::Site;
@@ -39,6 +40,9 @@ impl Node {
         ensures after { self.new ≡ (redo_part (here_at site.now) self.old).after }
         ensures pages { length self.new.pages ≡ length self.old.pages }
     {
+        if !self.is_up() {
+            return down(site);
+        }
         if self.leads() {
             return Answer::No(Refusal::NotSecondary { node: site.number });
         }
@@ -70,6 +74,9 @@ impl Node {
         ensures after { self.new ≡ (apply_part (here_at site.now) self.old stripe).after }
         ensures pages { length self.new.pages ≡ length self.old.pages }
     {
+        if !self.is_up() {
+            return down(site);
+        }
         if self.leads() {
             return Answer::No(Refusal::NotSecondary { node: site.number });
         }
@@ -113,6 +120,9 @@ impl Node {
         ensures after { self.new ≡ (raise_part (here_at site.now) self.old stripe).after }
         ensures pages { length self.new.pages ≡ length self.old.pages }
     {
+        if !self.is_up() {
+            return down(site);
+        }
         if self.leads() {
             return Answer::No(Refusal::NotSecondary { node: site.number });
         }
@@ -155,6 +165,9 @@ impl Node {
         ensures answer { IfOk result (λ a. a ≡ (read_part (here_at site.now) self.now token.now key).answer) }
         ensures left { OnOk result ((read_part (here_at site.now) self.now token.now key).after ≡ self.now) }
     {
+        if !self.is_up() {
+            return Ok(down(site));
+        }
         if self.leads() {
             return Ok(Answer::No(Refusal::NotSecondary { node: site.number }));
         }
@@ -207,13 +220,14 @@ impl Node {
         block: &Block,
     ) -> Result<(Answer, Option<Message>), NoMemory>
         requires fits { IsBlock block.now }
+        requires whole { IsWhole block.now.records }
         ensures answer { IfOk result (λ x. x.0 ≡ (block_part (here_at site.now) from self.old full term block.now).answer) }
         ensures out { IfOk result (λ x. posting_of from x.1 ≡ (block_part (here_at site.now) from self.old full term block.now).out) }
         ensures built { IfOk result (λ x. IfSome x.1 IsBuiltMessage) }
         ensures after { OnOk result (self.new ≡ (block_part (here_at site.now) from self.old full term block.now).after) }
         ensures pages { length self.new.pages ≡ length self.old.pages }
     {
-        if self.leads() || term != TERM {
+        if self.leads() || term != TERM || !self.follows() {
             return Ok((Answer::No(Refusal::Nothing), None));
         }
         let end = self.end();
@@ -253,6 +267,7 @@ impl Node {
     /// Hardens a block that came.
     fn append_block(&mut self, new: &RecordList) -> Result<(), NoMemory>
         requires fits { ArePayload new.now }
+        requires whole { IsWhole new.now }
         requires follows { self.old.leads ≡ false }
         ensures after { OnOk result (self.new ≡ record self.old { kept = record self.old.kept { log = with_block self.old.kept.log new.now } }) }
         ensures pages { length self.new.pages ≡ length self.old.pages }

@@ -11,11 +11,12 @@ ghost use Rattle.ag_rules.specs.HardenEvent.{harden_part, hardens, hardened_one}
 ghost use Rattle.ag_rules.specs.SendEvent.{send_part, block_to_send, block_message, with_sent};
 ghost use Rattle.ag_rules.specs.AckMessage.{ack_message_part, known_peer};
 ghost use Rattle.ag_built.specs.Built.{IsBuiltMessage, IsPair};
+ghost use Rattle.ag_built.specs.Whole.{IsWhole};
 ghost use Rattle.ag_node.specs.Out.{posting_of};
 ghost use Rattle.ag_node.specs.Sites.{here_at};
 ghost use Rattle.ag_node.specs.Nodes.{IsRefusedBy};
 
-use super::{Node, TERM, not_primary};
+use super::{Node, TERM, down, not_primary};
 use crate::listed::records_of_set;
 use crate::marks::mark;
 use crate::room::{first_full, spend};
@@ -43,6 +44,9 @@ impl Node {
         ensures after { OnOk result (self.new ≡ (set_part (here_at site.now) self.old pairs.now).after) }
         ensures pages { length self.new.pages ≡ length self.old.pages }
     {
+        if !self.is_up() {
+            return Ok(down(site));
+        }
         if !self.leads() {
             return Ok(not_primary(site));
         }
@@ -107,6 +111,9 @@ impl Node {
         ensures after { OnOk result (self.new ≡ (harden_part (here_at site.now) self.old).after) }
         ensures pages { length self.new.pages ≡ length self.old.pages }
     {
+        if !self.is_up() {
+            return Ok(down(site));
+        }
         if !self.leads() {
             return Ok(not_primary(site));
         }
@@ -165,6 +172,9 @@ impl Node {
         ensures after { OnOk result (self.new ≡ (send_part (here_at site.now) self.old m full).after) }
         ensures pages { length self.new.pages ≡ length self.old.pages }
     {
+        if !self.is_up() {
+            return Ok((down(site), None));
+        }
         if !self.leads() {
             return Ok((not_primary(site), None));
         }
@@ -203,6 +213,7 @@ impl Node {
         ensures end { result ≡ block_to_send self.now m }
         ensures bounds { IfSome result (λ last. (1 ≤ first) × (first ≤ last) × (last ≤ end self.now)) }
         ensures small { IfSome result (λ last. size_of_records (after_to (first - 1) last (records self.now)) ≤ 15488) }
+        ensures whole { IfSome result (λ last. IsWhole (after_to (first - 1) last (records self.now))) }
     {
         self.log.block_from(first)
     }
@@ -219,6 +230,7 @@ impl Node {
         requires first { first ≡ (peer self.old m).next }
         requires bounds { (1 ≤ first) × (first ≤ last) × (last ≤ end self.old) }
         requires small { size_of_records (after_to (first - 1) last (records self.old)) ≤ 15488 }
+        requires whole { IsWhole (after_to (first - 1) last (records self.old)) }
         ensures message { IfOk result (λ message. message ≡ block_message self.old (peer self.old m).next last) }
         ensures built { IfOk result IsBuiltMessage }
         ensures after { OnOk result (self.new ≡ with_sent self.old m last) }

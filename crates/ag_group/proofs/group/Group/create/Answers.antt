@@ -14,4 +14,4 @@ invariant_of-result c =
     (c.in_ok-opening_nodes.ensures ∙ ap (λ (m : List Mode). opening_replicas c.args.config.now m) c.as_slice-modes.ensures ∙ (λ i. opening_replicas (sym copy i) (sym copy i).modes))
     (c.in_ok-opening_links.ensures
     ∙ (λ i. replicate (length ((c.as_slice-modes.ensures ∙ ap (λ (x : Config). x.modes) (sym copy)) i)) (replicate (length ((c.as_slice-modes.ensures ∙ ap (λ (x : Config). x.modes) (sym copy)) i)) [])))
-    c.in_ok-no_tokens.ensures refl
+    c.in_ok-no_tokens.ensures refl refl

@@ -9,10 +9,12 @@ use Rattle.ag_rules.specs.ApplyEvent.{apply_part}
 use Rattle.ag_rules.specs.RaiseEvent.{raise_part}
 use Rattle.ag_rules.specs.DeliverEvent.{plan_of_lose}
 use Rattle.ag_rules.specs.ReadEvent.{read_part}
+use Rattle.ag_rules.specs.CrashEvent.{crash_part}
+use Rattle.ag_rules.specs.StartEvent.{start_part}
 use Rattle.ag_rules.specs.SendEvent.{send_part}
 use Rattle.ag_rules.specs.Next.{apart, at_session, token}
 use Rattle.ag_group.specs.Refusals.{leaves_node, leaves_group}
-use Rattle.ag_group.proofs.Refused.{left_by, set_left, harden_left, apply_left, raise_left, redo_left, read_left, send_left, lose_left}
+use Rattle.ag_group.proofs.Refused.{left_by, set_left, harden_left, apply_left, raise_left, redo_left, crash_left, start_left, read_left, send_left, lose_left}
 use Rattle.ag_group.proofs.group.Group.step.Goals as goal
 
 pub returns-in_ok-answer-in-Set-clause-refused : goal.returns-in_ok-answer-in-Set-clause-refused
@@ -54,3 +56,13 @@ pub returns-in-Lose-clause-refused : goal.returns-in-Lose-clause-refused
 returns-in-Lose-clause-refused c =
     let g : Group = c.args.self.now in
     left_by c.args.event.now leaves_node g c.lose-answer.new.self (apart g c.named-n-in-Lose.result c.named-m-in-Lose.result (plan_of_lose g c.named-n-in-Lose.result c.named-m-in-Lose.result c.in-Lose.number)) c.lose-answer.result (λ why. ap (λ (e : Event). leaves_group e why) c.in-Lose.is) c.lose-answer.ensures.answer c.lose-answer.ensures.after (lose_left g c.named-n-in-Lose.result c.named-m-in-Lose.result c.in-Lose.number)
+
+pub returns-in-Crash-clause-refused : goal.returns-in-Crash-clause-refused
+returns-in-Crash-clause-refused c =
+    let g : Group = c.args.self.now in
+    left_by c.args.event.now leaves_node g c.crash-answer.new.self (at_node g c.named-n-in-Crash.result (crash_part (here g c.named-n-in-Crash.result) (replica g c.named-n-in-Crash.result))) c.crash-answer.result (λ why. ap (λ (e : Event). leaves_group e why) c.in-Crash.is) c.crash-answer.ensures.answer c.crash-answer.ensures.after (crash_left g c.named-n-in-Crash.result)
+
+pub returns-in_ok-answer-in-Start-clause-refused : goal.returns-in_ok-answer-in-Start-clause-refused
+returns-in_ok-answer-in-Start-clause-refused c =
+    let g : Group = c.args.self.now in
+    left_by c.args.event.now leaves_node g c.start.new.self (at_node g c.named-n-in-Start.result (start_part (here g c.named-n-in-Start.result) (replica g c.named-n-in-Start.result))) c.in_ok-answer-in-Start.answer (λ why. ap (λ (e : Event). leaves_group e why) c.in-Start.is) c.in_ok-answer-in-Start.ensures.answer c.in_ok-answer-in-Start.ensures.after (start_left g c.named-n-in-Start.result)

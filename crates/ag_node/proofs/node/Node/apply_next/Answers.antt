@@ -15,7 +15,7 @@ returns-clause-after c =
     let between : low + (high - low) ≡ high = omega (arith, c.end_after-next.ensures.least) in
     let new : take (high - low) (drop low n.log.records) ≡ after_to low high n.log.records
     = sym (drop-take low (high - low) n.log.records) ∙ ap (λ m. drop low (take m n.log.records)) between in
-    node_applied n.leads n.log n.stripes c.apply.new.self n.dirty.items _ n.buffer n.last_txn n.synced n.peers.items c.args.self.now c.args.pages c.args.x high
+    node_applied n.activity n.log n.stripes c.apply.new.self n.dirty.items _ n.buffer n.last_txn n.synced n.peers.items c.args.self.now c.args.pages c.args.x high
     c.self.view_is c.requires.pages (c.end_after-next.ensures.end ∙ ap (λ lsn. next_end lsn n.log.ends) c.applied-applied.ensures) c.apply.ensures
     (with_items_is n.dirty c.mark.new.dirty long ∙ c.mark.ensures
     ∙ (λ i. marked_of (Some c.args.x) (take (high - low) (drop low (c.records.ensures i))) (c.as_mut_slice.ensures.value i))

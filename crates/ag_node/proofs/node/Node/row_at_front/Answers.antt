@@ -17,7 +17,7 @@ returns-then-front-horizon-clause-answer c =
       stands = c.applied-applied.ensures ∙ (λ i. (get_or n.stripes ((16 + c.args.key % c.from.ensures i) % 16) no_stripe).applied);
       is = c.horizon_at-horizon.ensures ∙ (λ i. (value c.args.site.now.pages (c.records-records.ensures i) c.applied-applied.result (16 + c.args.key % c.from.ensures i)).horizon);
     } in
-    read_too_old n.leads n.log n.stripes n.dirty.items n.buffer n.last_txn n.synced n.peers.items c.args.self.now (here_at c.args.site.now) c.args.key c.front-front.result c.horizon_at-horizon.result c.self.view_is c.front-front.ensures horizon c.if-front-horizon.true
+    read_too_old n.activity n.log n.stripes n.dirty.items n.buffer n.last_txn n.synced n.peers.items c.args.self.now (here_at c.args.site.now) c.args.key c.front-front.result c.horizon_at-horizon.result c.self.view_is c.front-front.ensures horizon c.if-front-horizon.true
 
 pub returns-clause-answer : goal.returns-clause-answer
 returns-clause-answer c =
@@ -28,15 +28,15 @@ returns-clause-answer c =
       is = c.horizon_at-horizon.ensures ∙ (λ i. (value c.args.site.now.pages (c.records-records.ensures i) c.applied-applied.result (16 + c.args.key % c.from.ensures i)).horizon);
     } in
     c.row_answer.ensures
-    ∙ read_row n.leads n.log n.stripes n.dirty.items n.buffer n.last_txn n.synced n.peers.items c.args.self.now (here_at c.args.site.now) c.args.key c.front-front.result c.horizon_at-horizon.result c.in_ok-row.row
+    ∙ read_row n.activity n.log n.stripes n.dirty.items n.buffer n.last_txn n.synced n.peers.items c.args.self.now (here_at c.args.site.now) c.args.key c.front-front.result c.horizon_at-horizon.result c.in_ok-row.row
     c.self.view_is c.front-front.ensures horizon c.if-front-horizon.false (c.in_ok-row.ensures ∙ (λ i. rows (c.records-records.ensures i) c.front-front.result c.args.key))
 
 pub returns-then-front-horizon-clause-left : goal.returns-then-front-horizon-clause-left
 returns-then-front-horizon-clause-left c =
     let n = c.self.inside in
-    read_left n.leads n.log n.stripes n.dirty.items n.buffer n.last_txn n.synced n.peers.items c.args.self.now (here_at c.args.site.now) c.args.key c.self.view_is
+    read_left n.activity n.log n.stripes n.dirty.items n.buffer n.last_txn n.synced n.peers.items c.args.self.now (here_at c.args.site.now) c.args.key c.self.view_is
 
 pub returns-clause-left : goal.returns-clause-left
 returns-clause-left c =
     let n = c.self.inside in
-    read_left n.leads n.log n.stripes n.dirty.items n.buffer n.last_txn n.synced n.peers.items c.args.self.now (here_at c.args.site.now) c.args.key c.self.view_is
+    read_left n.activity n.log n.stripes n.dirty.items n.buffer n.last_txn n.synced n.peers.items c.args.self.now (here_at c.args.site.now) c.args.key c.self.view_is
