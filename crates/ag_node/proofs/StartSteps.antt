@@ -132,7 +132,7 @@ pub first_is : (a : Activity) (log : Log) (ss : List Stripe) (ds : List Bool) (l
     ≡ record { answer = Started Primary 1 (length log.records) (length log.records); writes = writes_of_start a log; out = []; after = node_of (started_activity true a) log (all_at (length log.records)) (marked_to_end ss log.records ds) (leading_at_start h log) }
 first_is a log ss ds leading h few f t cut = (λ i. starts_first (record h { pages = few i }) (node_of a log ss ds leading) []) ∙ first_of_pages a log ss ds leading h f t cut
 
-not_below : (n : ℕ) → nat_lt n 0 ≡ false
+pub not_below : (n : ℕ) → nat_lt n 0 ≡ false
 not_below n = false_from_ne_true (nat_lt n 0) (λ t. let l = ltb-true n 0 t in absurd (omega arith))
 
 -- the replica can start

@@ -5,3 +5,5 @@ pub mod Folded
 pub mod Marked
 pub mod Nodes
 pub mod Out
+pub mod Suffixes
+pub mod Reaching
