@@ -16,6 +16,7 @@ use Rattle.ag_rules.specs.Plan.{Part, Batch, Write, Block_write, Master_write, a
 use Rattle.ag_rules.specs.Cut.{all_writes, failed_disk, failed_steps, torn_pages}
 use Rattle.ag_model.specs.declared.record.Record.{Record}
 use Rattle.ag_model.specs.Sizes.{block_sectors}
+use Rattle.ag_node.specs.declared.reach.Reach.{Reach}
 use Rattle.ag_node.specs.declared.reach.Reach.TheVariants.{Stop as StopReach}
 use Rattle.ag_node.specs.Suffixes.{cut_part, stopped_part, failed_part}
 use Rattle.ag_node.proofs.StartSteps.{not_below}
@@ -93,3 +94,14 @@ cut_master pages n (Fail c) r part m log_end e = elim (cases_Bool (nat_le c 3)) 
       rw (reached, t) (fail_second n (c - 1) r part (Master_write m log_end) (up_to_two c (leb-true c 3 t)) part.writes e)
   | inr f ↦ let past : nat_lt (c - 1) (sum_by (λ b. length b + 1) part.writes) ≡ false = ap (λ (ws : List Batch). nat_lt (c - 1) (sum_by (λ b. length b + 1) ws)) e ∙ first_three c ∙ f in rw (past, f) refl
 ]
+
+-- how far a part comes that writes a block of so many sectors, where that is known
+pub cut_at_block : (pages n : ℕ) (s : Suffix) (r : Replica) (part : Part) (new : List Record) (sectors : ℕ) (x y : Reach) → part.writes ≡ (Block_write new ∷ []) ∷ [] → sectors ≡ block_sectors new → x ≡ how_far s sectors 2 → x ≡ y
+    → cut_part pages n s r part ≡ part_reached n r part (Block_write new) y
+cut_at_block pages n s r part new sectors x y e f h is =
+    cut_block pages n s r part new e ∙ ap (part_reached n r part (Block_write new)) (ap (λ k. how_far s k 2) (sym f) ∙ sym h ∙ is)
+
+-- the same of a part that writes a master
+pub cut_at_master : (pages n : ℕ) (s : Suffix) (r : Replica) (part : Part) (m : Master) (log_end : ℕ) (x y : Reach) → part.writes ≡ [] ∷ (Master_write m log_end ∷ []) ∷ [] → x ≡ how_far s 1 3 → x ≡ y
+    → cut_part pages n s r part ≡ part_reached n r part (Master_write m log_end) y
+cut_at_master pages n s r part m log_end x y e h is = cut_master pages n s r part m log_end e ∙ ap (part_reached n r part (Master_write m log_end)) (sym h ∙ is)

@@ -7,3 +7,5 @@ pub mod Nodes
 pub mod Out
 pub mod Suffixes
 pub mod Reaching
+pub mod Hardening
+pub mod Starting
