@@ -118,12 +118,7 @@ impl Group {
     {
         let site = self.site(n);
         let node = &mut self.nodes[usize::from(n)];
-        let answer = node.start(
-            alloc,
-            &site,
-            self.config.modes.as_slice(),
-            &Suffix::Whole,
-        )?;
+        let answer = node.start(alloc, &site, self.config.modes.as_slice(), &Suffix::Whole)?;
         Ok(answer)
     }
 

@@ -247,9 +247,16 @@ impl Node {
         if let Some(told) = self.block_case(site, from, full, term, block)? {
             return Ok(told);
         }
-        match how_far(suffix, block_sectors_of(records_size(block.records.as_slice())?), 2) {
+        match how_far(
+            suffix,
+            block_sectors_of(records_size(block.records.as_slice())?),
+            2,
+        ) {
             Reach::End => {
-                let lsn = self.end().checked_add(block.records.len() as u64).ok_or(NoMemory)?;
+                let lsn = self
+                    .end()
+                    .checked_add(block.records.len() as u64)
+                    .ok_or(NoMemory)?;
                 let message = self.ack(lsn);
                 self.append_block(&block.records)?;
                 Ok((Answer::Hardened { lsn }, Some(message)))
