@@ -8,6 +8,8 @@ use Rattle.ag_rules.specs.Script.{IsConfig, IsScript}
 use Rattle.ag_rules.specs.Run.{run}
 use Rattle.ag_rules.specs.ReadsRight.{ReadsRight}
 use Rattle.ag_rules.specs.SessionLaw.{SessionLaw}
+use Rattle.ag_rules.specs.KeptLaw.{KeptLaw}
+use Rattle.ag_rules.specs.RevertedLaw.{RevertedLaw}
 use Rattle.ag_script.specs.declared.fault.ScriptFault.{ScriptFault}
 use Rattle.ag_script.specs.declared.fault.ScriptFault.TheVariants as Fault
 use Rattle.std.specs.Io.KnownBytes.{Keeps}
@@ -67,8 +69,16 @@ ReadLaw = (c : Config) (es : List Event) → 0 < length c.modes → IsScript c e
 abbrev pub SessionsLaw : Type 0
 SessionsLaw = (c : Config) (es : List Event) → 0 < length c.modes → IsScript c es → SessionLaw (run c es)
 
-pub played : (text script : List ℕ) (c : Config) (events : List Event) (a b : Option (List ℕ)) → length text ≤ most_bytes → HasScript text script → c ≡ default_config → IsConfig c → IsScriptText c script events → IsScript c events → ReadLaw → SessionsLaw → HasRun c events a b → IsPlayed (Some text) a b
-played text script c events a b few has head settings says range reads sessions ran = record {
+-- a safe failover keeps what was confirmed
+abbrev pub FailoverLaw : Type 0
+FailoverLaw = (c : Config) (es : List Event) → 0 < length c.modes → IsScript c es → KeptLaw (run c es)
+
+-- a replica that finishes reverting is as restored
+abbrev pub RestoredLaw : Type 0
+RestoredLaw = (c : Config) (es : List Event) → 0 < length c.modes → IsScript c es → RevertedLaw c.pages (run c es)
+
+pub played : (text script : List ℕ) (c : Config) (events : List Event) (a b : Option (List ℕ)) → length text ≤ most_bytes → HasScript text script → c ≡ default_config → IsConfig c → IsScriptText c script events → IsScript c events → ReadLaw → SessionsLaw → FailoverLaw → RestoredLaw → HasRun c events a b → IsPlayed (Some text) a b
+played text script c events a b few has head settings says range reads sessions kept reverted ran = record {
   config = c;
   events = events;
   answers = ran.answers;
@@ -78,6 +88,8 @@ played text script c events a b few has head settings says range reads sessions 
   lawful = ran.lawful;
   reads = reads c events (omega (arith, settings.replicas.0)) range;
   sessions = sessions c events (omega (arith, settings.replicas.0)) range;
+  kept = kept c events (omega (arith, settings.replicas.0)) range;
+  reverted = reverted c events (omega (arith, settings.replicas.0)) range;
   written = ran.written;
 }
 
@@ -115,6 +127,8 @@ told_played o text a b e p = record {
   lawful = p.lawful;
   reads = p.reads;
   sessions = p.sessions;
+  kept = p.kept;
+  reverted = p.reverted;
   written = p.written;
 }
 

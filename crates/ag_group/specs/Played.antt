@@ -9,6 +9,8 @@ use Rattle.ag_rules.specs.Script.{IsConfig, IsScript}
 use Rattle.ag_rules.specs.Run.{Lawful, run}
 use Rattle.ag_rules.specs.ReadsRight.{ReadsRight}
 use Rattle.ag_rules.specs.SessionLaw.{SessionLaw}
+use Rattle.ag_rules.specs.KeptLaw.{KeptLaw}
+use Rattle.ag_rules.specs.RevertedLaw.{RevertedLaw}
 use Rattle.ag_transcript.specs.Transcript.{transcript}
 use Rattle.ag_group.specs.Scenario.{IsScenario}
 
@@ -21,9 +23,12 @@ pub record IsPlayed (told before now : Option (List ℕ)) : Type 0 where
   pub settings : IsConfig config
   pub in_range : IsScript config events
   pub lawful : Lawful config events answers
-  -- its reads are rows after prefixes of the log, and no session goes back
+  -- its reads are rows after prefixes of the log, no session goes back, a safe failover keeps what was confirmed, and what
+  -- reverted is as restored
   pub reads : ReadsRight (run config events)
   pub sessions : SessionLaw (run config events)
+  pub kept : KeptLaw (run config events)
+  pub reverted : RevertedLaw config.pages (run config events)
   pub written : Appends before now (transcript config answers)
 
 -- the same of a run of the first events, of whose transcript a front was taken

@@ -91,7 +91,7 @@ impl Group {
             }
             Event::Harden { node, suffix: _ } => {
                 let n = self.named(node);
-                let answer = self.harden(n)?;
+                let answer = self.harden(alloc, n)?;
                 Ok(answer)
             }
             Event::Send {

@@ -12,7 +12,9 @@ ghost use Rattle.ag_group.specs.Played.{IsPlayed, IsPlayedInPart};
 
 use crate::events::{RunError, run_events};
 use crate::status::{Bound, ConfigKey, Status};
+use ag_law_kept::failovers_keep_commits;
 use ag_law_reads::reads_right;
+use ag_law_reverted::reverted_as_restored;
 use ag_law_sessions::sessions_never_fall;
 use ag_model::config::{Config, Mode, ModeList};
 use ag_outside::stream::{Sink, Source};
@@ -114,6 +116,8 @@ fn play_text<K: Sink>(alloc: Global, text: &[u8], sink: &mut K) -> Status
 {
     reads_right();
     sessions_never_fall();
+    failovers_keep_commits();
+    reverted_as_restored();
     let Some(script) = script_of(text) else {
         return Status::BadConfig {
             key: ConfigKey::Head,

@@ -13,3 +13,4 @@ pub mod Rising
 pub mod NodeSets
 pub mod OpeningSteps
 pub mod StartSteps
+pub mod Cutting

@@ -1,6 +1,6 @@
 -- A primary in `set`, from its parts.
-use Rattle.std.proofs.Common.{◌≡◌, ℕ, ◌+◌, ◌<◌, ◌≤◌, List, [], ◌∷◌, ◌++◌, length, Bool, true, refl, sym, ap, ◌∙◌, subst, arith, append_assoc, le-ltb, lt-ltb}
-use Rattle.std.specs.Prelude.{Option, Some, None}
+use Rattle.std.proofs.Common.{◌≡◌, ℕ, ◌+◌, ◌<◌, ◌≤◌, List, [], ◌∷◌, ◌++◌, length, Bool, true, false, refl, sym, ap, ◌∙◌, subst, arith, append_assoc, le-ltb, lt-ltb}
+use Rattle.std.specs.Prelude.{Option, Some, None, if◌then◌else◌}
 use Rattle.std.specs.List.{All}
 use Rattle.std.proofs.lemmas.List.{length-map}
 use Rattle.std.proofs.lemmas.List.Sums.{sum_by-append}
@@ -94,3 +94,12 @@ node_after_set activity log ss pages buffer buffer' new bytes bytes' txn txn' us
           (set_log_grows pages txn (log.records ++ buffer) used pairs (omega (arith, h.some_pages)) (h.room e))));
       small = small;
     }
+
+sets_nothing : (b : Bool) (x y : Part) → x.writes ≡ [] → y.writes ≡ [] → (if b then x else y).writes ≡ []
+sets_nothing true x y p q = p
+sets_nothing false x y p q = q
+
+-- `set` writes nothing
+pub set_nothing : (n : Replica) (part : Part) (full : Option Refusal) (new : List Record) → part ≡ unless_some full n (sets n new) → part.writes ≡ []
+set_nothing n part None new e = ap (λ (x : Part). x.writes) e ∙ sets_nothing _ (refused (buffer_is_full n new).refusal n) (at_once (Lsn (full_end n + length new)) (with_set n new)) refl refl
+set_nothing n part (Some why) new e = ap (λ (x : Part). x.writes) e

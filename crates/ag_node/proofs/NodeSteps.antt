@@ -14,7 +14,7 @@ use Rattle.ag_model.specs.Rows.{rows, page_of, stripe_of}
 use Rattle.ag_model.specs.Page.{value}
 use Rattle.ag_record.specs.Spelling.{HaveSpelling}
 use Rattle.ag_rules.specs.Replica.{Replica, Peer, Stripe, no_stripe, all_at, least, end, front, is_reverting}
-use Rattle.ag_rules.specs.Plan.{Part, Here, unless, at_once, refused}
+use Rattle.ag_rules.specs.Plan.{Block_write, Part, Here, unless, at_once, refused}
 use Rattle.ag_rules.specs.Redo.{due_pages, touched_up_to}
 use Rattle.ag_rules.specs.HardenEvent.{hardens, hardened_one}
 use Rattle.ag_rules.specs.RedoEvent.{redoes_touching}
@@ -235,3 +235,62 @@ front_within end (s ∷ ss) sixteen h = least_le s.published (map (λ x. x.publi
     least_le : (x : ℕ) (xs : List ℕ) → x ≤ end → least (x ∷ xs) ≤ end
     least_le x [] l = l
     least_le x (y ∷ ys) l = omega (arith, l)
+
+-- what a node writes in redo, and in harden
+
+pub redoes_nothing : (activity : Activity) (log : Log) (ss : List Stripe) (ds : List Bool) (buffer : List Record) (txn synced : ℕ) (peers : List Peer) (r : Replica) (pages : ℕ)
+    → node_of activity log ss ds (leading_of buffer txn synced peers) ≡ r → pages ≡ length r.pages → (redoes_touching pages r (touched_up_to pages (end r) r)).writes ≡ []
+redoes_nothing activity log ss ds buffer txn synced peers r pages is p =
+    let few : pages ≡ length ds = pages_are activity log ss ds buffer txn synced peers r pages is p in
+    (λ i. (redoes_touching (few i) (sym is i) (touched_up_to (few i) (end (sym is i)) (sym is i))).writes)
+    ∙ ap (λ (x : Part). x.writes) (redoes_is activity log ss ds (leading_of buffer txn synced peers))
+
+pub applies_nothing : (activity : Activity) (log : Log) (ss : List Stripe) (ds : List Bool) (buffer : List Record) (txn synced : ℕ) (peers : List Peer) (r : Replica) (pages x : ℕ)
+    → node_of activity log ss ds (leading_of buffer txn synced peers) ≡ r → pages ≡ length r.pages → (applies_touching pages r x (next_of_stripe r x) (touched_in_stripe pages r x (next_of_stripe r x))).writes ≡ []
+applies_nothing activity log ss ds buffer txn synced peers r pages x is p =
+    let few : pages ≡ length ds = pages_are activity log ss ds buffer txn synced peers r pages is p in
+    let n : Replica = node_of activity log ss ds (leading_of buffer txn synced peers) in
+    (λ i. (applies_touching (few i) (sym is i) x (next_of_stripe (sym is i) x) (touched_in_stripe (few i) (sym is i) x (next_of_stripe (sym is i) x))).writes)
+    ∙ ap (λ (y : Part). y.writes) (applies_is activity log ss ds (leading_of buffer txn synced peers) x (next_of_stripe n x))
+
+pub hardens_block_of : (activity : Activity) (log : Log) (ss : List Stripe) (ds : List Bool) (buffer : List Record) (txn synced : ℕ) (peers : List Peer) (r : Replica) (pages : ℕ)
+    → node_of activity log ss ds (leading_of buffer txn synced peers) ≡ r → pages ≡ length r.pages → (hardens pages r (due_pages pages (hardened_one pages r))).writes ≡ (Block_write r.leading.buffer ∷ []) ∷ []
+hardens_block_of activity log ss ds buffer txn synced peers r pages is p =
+    let few : pages ≡ length ds = pages_are activity log ss ds buffer txn synced peers r pages is p in
+    (λ i. (hardens (few i) (sym is i) (due_pages (few i) (hardened_one (few i) (sym is i)))).writes)
+    ∙ ap (λ (x : Part). x.writes) (hardens_is activity log ss ds (leading_of buffer txn synced peers))
+    ∙ (λ i. (Block_write (is i).leading.buffer ∷ []) ∷ [])
+
+no_writes : (b : Bool) (x y : Part) → x.writes ≡ [] → y.writes ≡ [] → (if b then x else y).writes ≡ []
+no_writes true x y p q = p
+no_writes false x y p q = q
+
+-- a read writes nothing
+pub read_nothing : (activity : Activity) (log : Log) (ss : List Stripe) (ds : List Bool) (buffer : List Record) (txn synced : ℕ) (peers : List Peer) (r : Replica) (h : Here) (key : ℕ)
+    → node_of activity log ss ds (leading_of buffer txn synced peers) ≡ r → (reads_at h r (front r) key).writes ≡ []
+read_nothing activity log ss ds buffer txn synced peers r h key is =
+    let n : Replica = node_of activity log ss ds (leading_of buffer txn synced peers) in
+    (λ i. (reads_at h (sym is i) (front (sym is i)) key).writes)
+    ∙ ap (λ (x : Part). x.writes) (reads_is activity log ss ds buffer txn synced peers h key)
+    ∙ no_writes _ (refused (TooOld (front_of ss) (value h.pages log.records (get_or ss (stripe_of (page_of h.pages key)) no_stripe).applied (page_of h.pages key)).horizon) n) (at_once (row_answer (front_of ss) (rows log.records (front_of ss) key)) n) refl refl
+
+-- a buffer that becomes a block, while the stripes stay
+pub node_after_keeping : (activity : Activity) (log log' : Log) (ss : List Stripe) (pages : ℕ) (buffer buffer' : List Record) (bytes txn : ℕ) (used : List ℕ)
+    → IsNode activity log ss pages buffer bytes txn used → 0 < length buffer → log' ≡ with_block log buffer → buffer' ≡ [] → IsNode activity log' ss pages buffer' 0 txn used
+node_after_keeping activity log log' ss pages buffer buffer' bytes txn used h k l b =
+    let records : log'.records ++ buffer' ≡ log.records ++ buffer = (λ i. (l i).records ++ b i) ∙ append-nil (log.records ++ buffer) in
+    let longer : length log.records ≤ length log'.records = omega (arith, ap (λ (x : Log). length x.records) l, length-append log.records buffer) in
+    record {
+      stands = h.stands;
+      first = subst IsFirstTerm (sym l) (first_grows log buffer h.first k h.whole);
+      whole = subst IsWhole (sym b) whole_nil;
+      some_pages = h.some_pages;
+      few_pages = h.few_pages;
+      sixteen = h.sixteen;
+      redone = λ k d i. (omega (arith, (h.redone k d i).0, longer), omega (arith, (h.redone k d i).1, longer));
+      counted = sym (ap records_size b);
+      most = omega arith;
+      fits = subst HaveSpelling (sym b) tt;
+      room = λ e. subst (λ (x : List Record). IsSetLog pages txn x used) (sym records) (h.room e);
+      small = h.small;
+    }

@@ -1,5 +1,6 @@
 -- A node that crashes and starts, from its parts.
-use Rattle.std.proofs.Common.{◌≡◌, ℕ, zero, suc, ◌+◌, ◌<◌, ◌≤◌, List, [], ◌∷◌, ◌++◌, length, drop, map, replicate, Bool, true, false, refl, sym, ap, ap₂, ◌∙◌, subst, arith}
+use Rattle.std.proofs.lemmas.Bool.{cases_Bool}
+use Rattle.std.proofs.Common.{inl, inr, ◌⊎◌, ◌≡◌, ℕ, zero, suc, ◌+◌, ◌<◌, ◌≤◌, List, [], ◌∷◌, ◌++◌, length, drop, map, replicate, Bool, true, false, refl, sym, ap, ap₂, ◌∙◌, subst, arith}
 use Rattle.std.specs.Prelude.{max, nat_le, nat_lt, ◌==◌, if◌then◌else◌}
 use Rattle.std.specs.List.{filter, list_any, All}
 use Rattle.std.proofs.lemmas.Bool.{le-leb, false_from_ne_true, ltb-true}
@@ -15,21 +16,23 @@ use Rattle.ag_model.specs.Rows.{touches, page_numbers}
 use Rattle.ag_model.specs.Starts.{last_term}
 use Rattle.ag_model.specs.Txns.{last_txn}
 use Rattle.ag_rules.specs.Replica.{Replica, Leading, Page, Peer, Stripe, Master, all_at, applied_of, clean_page, end, fallen, is_reverting, no_leading, no_peer, no_stripe, records}
-use Rattle.ag_rules.specs.Plan.{Here, Part, Write, Master_write, unless, writing}
+use Rattle.ag_rules.specs.Plan.{Here, Part, Write, Master_write, unless, writing, written}
 use Rattle.ag_rules.specs.Redo.{redone, touched_up_to, notes_of}
 use Rattle.ag_rules.specs.Promotion.{blocks_of, is_spent, leads_now, new_leading, promotion_records, promotion_touches, promotion_writes}
 use Rattle.ag_rules.specs.StartEvent.{start_part, start_part_with, start_writes, starts, starts_first, starts_second, start_records, is_named, woken, started_master}
 use Rattle.ag_node.specs.declared.activity.Activity.{Activity}
 use Rattle.ag_node.specs.View.{node_of, kept_of, page_of_flag, state_of}
+use Rattle.ag_node.specs.Starting.{CanStart}
 use Rattle.ag_node.specs.Marked.{marked_to_end, is_touched_after}
 use Rattle.ag_model.specs.Sizes.{records_size}
 use Rattle.ag_record.specs.Spelling.{HaveSpelling}
 use Rattle.ag_built.specs.Whole.{IsWhole}
 use Rattle.ag_node.specs.Room.{IsSetLog, used_in}
-use Rattle.ag_node.specs.Nodes.{leading_of, IsActivity, IsNode}
+use Rattle.ag_node.specs.Nodes.{leading_of, IsActivity, IsFirstTerm, IsNode}
 use Rattle.ag_logstore.specs.LogKept.{RisesTo}
 use Rattle.ag_logstore.proofs.LogEnds.{rises_le}
-use Rattle.ag_node.proofs.Whole.{whole_nil, whole_blocks}
+use Rattle.ag_model.proofs.Rising.{not-leb}
+use Rattle.ag_node.proofs.Whole.{whole_nil, whole_blocks, no_promotion}
 use Rattle.ag_node.proofs.WholeRoom.{whole_set_log}
 use Rattle.ag_node.proofs.NodeSteps.{all_within}
 use Rattle.ag_node.proofs.Quiet.{no_notes, redo_after, redone_where, contains-filter}
@@ -132,15 +135,8 @@ pub first_is : (a : Activity) (log : Log) (ss : List Stripe) (ds : List Bool) (l
     ≡ record { answer = Started Primary 1 (length log.records) (length log.records); writes = writes_of_start a log; out = []; after = node_of (started_activity true a) log (all_at (length log.records)) (marked_to_end ss log.records ds) (leading_at_start h log) }
 first_is a log ss ds leading h few f t cut = (λ i. starts_first (record h { pages = few i }) (node_of a log ss ds leading) []) ∙ first_of_pages a log ss ds leading h f t cut
 
-not_below : (n : ℕ) → nat_lt n 0 ≡ false
+pub not_below : (n : ℕ) → nat_lt n 0 ≡ false
 not_below n = false_from_ne_true (nat_lt n 0) (λ t. let l = ltb-true n 0 t in absurd (omega arith))
-
--- the replica can start
-pub record CanStart (r : Replica) : Type 0 where
-  pub down : r.up ≡ false
-  pub told : r.cut_off ≡ false
-  pub unspent : is_spent r.kept.master.incarnation ≡ false
-  pub steady : is_reverting r.state ≡ false
 
 -- a secondary that can start
 pub starts_as_second : (h : Here) (r : Replica) → CanStart r → is_named h ≡ false → start_part h r ≡ starts_second r (touched_up_to h.pages (end r) r)
@@ -238,3 +234,44 @@ node_led a log ss ss' pages pages' buffer buffer' bytes txn txn' used used' h f 
 pub all_strangers : (modes : List Mode) → replicate (length modes) no_peer ≡ map (λ m. no_peer) modes
 all_strangers [] = refl
 all_strangers (m ∷ ms) = ap (λ (l : List Peer). no_peer ∷ l) (all_strangers ms)
+
+-- what a start writes
+
+named_or_not : (h : Here) → (is_named h ≡ true) ⊎ (is_named h ≡ false)
+named_or_not h = cases_Bool (is_named h)
+
+pub start_writes_are : (a : Activity) (log : Log) (ss : List Stripe) (ds : List Bool) (leading : Leading) (r : Replica) (h : Here)
+    → node_of a log ss ds leading ≡ r → h.pages ≡ length r.pages → h.store.term ≡ 1 → IsActivity a → IsFirstTerm log → CanStart r
+    → (start_part h r).writes ≡ [] ∷ (Master_write (started_master r) (end r) ∷ []) ∷ []
+start_writes_are a log ss ds leading r h is p t stands first can =
+    let few : h.pages ≡ length ds = p ∙ ap (λ (x : Replica). length x.pages) (sym is) ∙ length-map ds page_of_flag in
+    let no = down_is a log ss ds leading r is stands can.down in
+    let whole = whole_blocks 0 (length log.records) log.ends log.records first.rises (omega arith) first.blocks in
+    let none : promotion_records h.pages h.store.term (records r) ≡ [] = (λ i. promotion_records h.pages (t i) (records (sym is i))) ∙ no_promotion h.pages log.records whole first.term in
+    let same : writes_of_start a log ≡ [] ∷ (Master_write (started_master r) (end r) ∷ []) ∷ [] = (λ i. [] ∷ (Master_write (started_master (is i)) (end (is i)) ∷ []) ∷ []) in
+    elim (named_or_not h) [
+      | inl named ↦ ap (λ (x : Part). x.writes) (starts_as_first h r can named none) ∙ (λ i. (starts_first h (sym is i) []).writes) ∙ ap (λ (x : Part). x.writes) (first_is a log ss ds leading h few no.0 t (cut_whole log first.rises)) ∙ same
+      | inr other ↦ ap (λ (x : Part). x.writes) (starts_as_second h r can other) ∙ (λ i. (starts_second (sym is i) (touched_up_to (few i) (end (sym is i)) (sym is i))).writes) ∙ ap (λ (x : Part). x.writes) (second_is a log ss ds leading no.0 no.1 (cut_whole log first.rises)) ∙ same
+    ]
+
+-- the master of a node that starts is written, while the node is as it was
+pub node_raised : (a : Activity) (log : Log) (ss : List Stripe) (ds : List Bool) (leading : Leading) (r : Replica) (n : ℕ)
+    → node_of a log ss ds leading ≡ r → RisesTo 0 (length log.records) log.ends → n ≡ r.kept.master.incarnation + 1
+    → node_of (record a { incarnation = n }) log ss ds leading ≡ record r { kept = written r.kept (Master_write (started_master r) (end r)) }
+node_raised a log ss ds leading r n is rises next =
+    (λ i. node_of (record a { incarnation = (next ∙ (λ j. (sym is j).kept.master.incarnation + 1)) i }) log ss ds leading)
+    ∙ (λ i. record (node_of a log ss ds leading) { kept = kept_of (a.incarnation + 1) (sym (cut_whole log rises) i) (length ds) })
+    ∙ (λ i. record (is i) { kept = written (is i).kept (Master_write (started_master (is i)) (end (is i))) })
+
+never_reverts : (follows : Bool) → is_reverting (state_of follows) ≡ false
+never_reverts true = refl
+never_reverts false = refl
+
+-- a node that is down, and may raise its incarnation, can start
+pub can_start : (a : Activity) (log : Log) (ss : List Stripe) (ds : List Bool) (leading : Leading) (r : Replica) → node_of a log ss ds leading ≡ r → a.up ≡ false → a.incarnation < 9223372036854775808 → CanStart r
+can_start a log ss ds leading r is down few = record {
+  down = (λ i. (sym is i).up) ∙ down;
+  told = (λ i. (sym is i).cut_off);
+  unspent = (λ i. is_spent (sym is i).kept.master.incarnation) ∙ not-leb 9223372036854775808 a.incarnation few;
+  steady = (λ i. is_reverting (sym is i).state) ∙ never_reverts a.follows;
+}

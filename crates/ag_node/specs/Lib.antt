@@ -5,3 +5,7 @@ pub mod Folded
 pub mod Marked
 pub mod Nodes
 pub mod Out
+pub mod Suffixes
+pub mod Reaching
+pub mod Hardening
+pub mod Starting

@@ -7,6 +7,7 @@ mod marks;
 pub mod node;
 pub mod opening;
 mod peer;
+mod reach;
 mod room;
 mod rows;
 pub mod site;

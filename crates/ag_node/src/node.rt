@@ -1,5 +1,5 @@
 //! One replica.
-ghost use Rattle.std.specs.Prelude.{length, List, ◌≡◌, ◌∷◌, [], IfOk, false, not, ◌==◌, ◌||◌};
+ghost use Rattle.std.specs.Prelude.{length, List, ◌≡◌, ◌∷◌, [], IfOk, false, not, if◌then◌else◌, ◌==◌, ◌||◌};
 ghost use Rattle.ag_model.specs.declared.record.Record.{Record};
 ghost use Rattle.ag_model.specs.Sizes.{records_size};
 ghost use Rattle.ag_rules.specs.Replica.{end, front, is_reverting};
@@ -153,6 +153,27 @@ fn down(site: &Site) -> Answer
     ensures { result ≡ Answer.No (Refusal.Down site.now.number) }
 {
     Answer::No(Refusal::Down { node: site.number })
+}
+
+/// The answer of an event whose one write is stopped. It counts where all of it was kept.
+fn stopped(alloc: Global, whole: bool) -> Answer
+    ensures { result ≡ Answer.Stopped 1 (if whole then 1 else 0) [] }
+{
+    Answer::Stopped {
+        write: 1,
+        step: u32::from(whole),
+        torn: ListOf::new(alloc),
+    }
+}
+
+/// The answer of an event one of whose calls of the disk failed.
+fn device_failed(site: &Site) -> Answer
+    ensures { result ≡ Answer.DeviceFailed site.now.number 0 }
+{
+    Answer::DeviceFailed {
+        node: site.number,
+        step: 0,
+    }
 }
 
 /// The refusal of a replica that isn't primary.

@@ -16,6 +16,7 @@ ghost use Rattle.ag_node.specs.Sites.{here_at};
 
 use super::Group;
 use ag_model::answer::{Answer, Refusal};
+use ag_model::event::Suffix;
 use ag_model::message::{Body, Message};
 use ag_model::value::NoMemory;
 use ag_node::node::Node;
@@ -169,7 +170,7 @@ impl Group {
             return Ok(None);
         };
         let node = &mut self.nodes[usize::from(m)];
-        let told = arrive(node, &site, n, full, &message)?;
+        let told = arrive(node, alloc, &site, n, full, &message)?;
         Ok(Some(told))
     }
 
@@ -235,6 +236,7 @@ impl Group {
 #[tactic(auto, unfolding(ag_rules::specs::BlockMessage::block_part))]
 fn arrive(
     node: &mut Node,
+    alloc: Global,
     site: &Site,
     from: u8,
     full: bool,
@@ -251,7 +253,15 @@ fn arrive(
         return Ok((Answer::No(Refusal::Down { node: site.number }), None));
     }
     match &message.body {
-        Body::Block(block) => node.block(site, from, full, message.term, block),
+        Body::Block(block) => node.block(
+            alloc,
+            site,
+            from,
+            full,
+            message.term,
+            block,
+            &Suffix::Whole,
+        ),
         Body::Ack { hardened, low } => {
             let answer = node.acknowledge(from, message.term, *hardened, *low);
             Ok((answer, None))

@@ -19,7 +19,7 @@ ghost use Rattle.ag_rules.specs.Checks.{token_or_none};
 use super::Group;
 use ag_model::answer::Answer;
 use ag_model::config::Token;
-use ag_model::event::PairList;
+use ag_model::event::{PairList, Suffix};
 use ag_model::value::NoMemory;
 use std::alloc::Global;
 
@@ -43,7 +43,7 @@ impl Group {
 
     /// `harden`: the buffer becomes a block.
     #[tactic(auto, unfolding(ag_rules::specs::HardenEvent::harden_part))]
-    pub(super) fn harden(&mut self, n: u8) -> Result<Answer, NoMemory>
+    pub(super) fn harden(&mut self, alloc: Global, n: u8) -> Result<Answer, NoMemory>
         requires node { n < length self.old.config.modes }
         ensures answer { IfOk result (λ a. a ≡ (at_node self.old n (harden_part (here self.old n) (replica self.old n))).answer) }
         ensures after { OnOk result (self.new ≡ (at_node self.old n (harden_part (here self.old n) (replica self.old n))).after) }
@@ -51,7 +51,7 @@ impl Group {
     {
         let site = self.site(n);
         let node = &mut self.nodes[usize::from(n)];
-        let answer = node.harden(&site)?;
+        let answer = node.harden(alloc, &site, &Suffix::Whole)?;
         Ok(answer)
     }
 
@@ -118,7 +118,7 @@ impl Group {
     {
         let site = self.site(n);
         let node = &mut self.nodes[usize::from(n)];
-        let answer = node.start(alloc, &site, self.config.modes.as_slice())?;
+        let answer = node.start(alloc, &site, self.config.modes.as_slice(), &Suffix::Whole)?;
         Ok(answer)
     }
 

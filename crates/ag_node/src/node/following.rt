@@ -1,5 +1,5 @@
 //! What the events of a secondary do.
-ghost use Rattle.std.specs.Prelude.{◌≡◌, ◌<◌, ◌==◌, ◌∷◌, [], IfOk, OnOk, IfSome, length, false};
+ghost use Rattle.std.specs.Prelude.{◌≡◌, ◌<◌, ◌==◌, ◌∷◌, [], IfOk, OnOk, IfSome, IfNone, MatchOption, length, false, true};
 ghost use Rattle.ag_model.specs.Blocks.{with_block};
 ghost use Rattle.ag_rules.specs.Replica.{end, front, stripe};
 ghost use Rattle.ag_rules.specs.Promotion.{log_check};
@@ -10,22 +10,28 @@ ghost use Rattle.ag_rules.specs.RaiseEvent.{raise_part, raised};
 ghost use Rattle.ag_rules.specs.ReadEvent.{read_part, reads_at, row_answer};
 ghost use Rattle.ag_rules.specs.Messages.{ack_message};
 ghost use Rattle.ag_rules.specs.BlockMessage.{block_part};
+ghost use Rattle.ag_rules.specs.DeliverEvent.{leaves};
+ghost use Rattle.ag_rules.specs.Plan.{sending};
 ghost use Rattle.ag_built.specs.Built.{IsBuiltMessage};
 ghost use Rattle.ag_built.specs.Whole.{IsWhole};
 ghost use Rattle.ag_record.specs.Spelling.{ArePayload};
 ghost use Rattle.ag_wire.specs.Spelling.{IsBlock};
 ghost use Rattle.ag_node.specs.Out.{posting_of};
 ghost use Rattle.ag_node.specs.Sites.{here_at};
+ghost use Rattle.ag_node.specs.Suffixes.{cut_part};
+ghost use Rattle.ag_node.specs.Hardening.{hardens_block};
 ghost use Rattle.ag_node.specs.Nodes.{IsRefusedBy};
 
-use super::{Node, TERM, down};
+use super::{Node, TERM, device_failed, down, stopped};
 use crate::marks::{mark, mark_to_end};
+use crate::reach::{Reach, how_far};
 use crate::rows::{horizon_at, row_at};
 use crate::site::Site;
 use crate::stripes::Stripes;
-use ag_logstore::{copy_of, records_size};
+use ag_logstore::{block_sectors_of, copy_of, records_size};
 use ag_model::answer::{Answer, Refusal};
 use ag_model::config::Token;
+use ag_model::event::Suffix;
 use ag_model::message::{Block, Body, Message};
 use ag_model::record::{Record, RecordList};
 use ag_model::value::{NoMemory, Row};
@@ -38,6 +44,7 @@ impl Node {
         requires pages { site.now.pages ≡ length self.old.pages }
         ensures answer { result ≡ (redo_part (here_at site.now) self.old).answer }
         ensures after { self.new ≡ (redo_part (here_at site.now) self.old).after }
+        ensures writes { (redo_part (here_at site.now) self.old).writes ≡ [] }
         ensures pages { length self.new.pages ≡ length self.old.pages }
     {
         if !self.is_up() {
@@ -56,6 +63,7 @@ impl Node {
         requires follows { self.old.leads ≡ false }
         ensures lsn { result ≡ end self.old }
         ensures after { self.new ≡ (redoes_touching pages self.old (touched_up_to pages (end self.old) self.old)).after }
+        ensures writes { (redoes_touching pages self.old (touched_up_to pages (end self.old) self.old)).writes ≡ [] }
         ensures pages { length self.new.pages ≡ length self.old.pages }
     {
         let end = self.log.end();
@@ -72,6 +80,7 @@ impl Node {
         requires stripe { stripe < 16 }
         ensures answer { result ≡ (apply_part (here_at site.now) self.old stripe).answer }
         ensures after { self.new ≡ (apply_part (here_at site.now) self.old stripe).after }
+        ensures writes { (apply_part (here_at site.now) self.old stripe).writes ≡ [] }
         ensures pages { length self.new.pages ≡ length self.old.pages }
     {
         if !self.is_up() {
@@ -102,6 +111,7 @@ impl Node {
         requires follows { self.old.leads ≡ false }
         ensures lsn { result ≡ next_of_stripe self.old x }
         ensures after { self.new ≡ (applies_touching pages self.old x (next_of_stripe self.old x) (touched_in_stripe pages self.old x (next_of_stripe self.old x))).after }
+        ensures writes { (applies_touching pages self.old x (next_of_stripe self.old x) (touched_in_stripe pages self.old x (next_of_stripe self.old x))).writes ≡ [] }
         ensures pages { length self.new.pages ≡ length self.old.pages }
     {
         let applied = self.stripes.applied(x);
@@ -118,6 +128,7 @@ impl Node {
         requires stripe { stripe < 16 }
         ensures answer { result ≡ (raise_part (here_at site.now) self.old stripe).answer }
         ensures after { self.new ≡ (raise_part (here_at site.now) self.old stripe).after }
+        ensures writes { (raise_part (here_at site.now) self.old stripe).writes ≡ [] }
         ensures pages { length self.new.pages ≡ length self.old.pages }
     {
         if !self.is_up() {
@@ -164,6 +175,7 @@ impl Node {
         requires pages { site.now.pages ≡ length self.now.pages }
         ensures answer { IfOk result (λ a. a ≡ (read_part (here_at site.now) self.now token.now key).answer) }
         ensures left { OnOk result ((read_part (here_at site.now) self.now token.now key).after ≡ self.now) }
+        ensures writes { OnOk result ((read_part (here_at site.now) self.now token.now key).writes ≡ []) }
     {
         if !self.is_up() {
             return Ok(down(site));
@@ -193,6 +205,7 @@ impl Node {
         requires pages { site.now.pages ≡ length self.now.pages }
         ensures answer { IfOk result (λ a. a ≡ (reads_at (here_at site.now) self.now (front self.now) key).answer) }
         ensures left { OnOk result ((reads_at (here_at site.now) self.now (front self.now) key).after ≡ self.now) }
+        ensures writes { OnOk result ((reads_at (here_at site.now) self.now (front self.now) key).writes ≡ []) }
     {
         let records = self.log.records();
         let front = self.stripes.front();
@@ -209,52 +222,94 @@ impl Node {
         Ok(row_answer(front, row))
     }
 
-    /// A block comes from a replica, the link back to which may be full: it is hardened where it is the next one.
-    #[tactic(auto, unfolding(ag_rules::specs::BlockMessage::block_part))]
+    /// A block comes from a replica, the link back to which may be full: it is hardened where it is the next one. Its write
+    /// may be stopped, or its write or its sync fail.
+    #[allow(clippy::too_many_arguments)]
     pub fn block(
         &mut self,
+        alloc: Global,
         site: &Site,
         from: u8,
         full: bool,
         term: u64,
         block: &Block,
+        suffix: &Suffix,
     ) -> Result<(Answer, Option<Message>), NoMemory>
         requires fits { IsBlock block.now }
         requires whole { IsWhole block.now.records }
-        ensures answer { IfOk result (λ x. x.0 ≡ (block_part (here_at site.now) from self.old full term block.now).answer) }
-        ensures out { IfOk result (λ x. posting_of from x.1 ≡ (block_part (here_at site.now) from self.old full term block.now).out) }
+        ensures answer { IfOk result (λ x. x.0 ≡ (cut_part site.now.pages site.now.number suffix.now self.old (block_part (here_at site.now) from self.old full term block.now)).answer) }
+        ensures out { IfOk result (λ x. posting_of from x.1 ≡ (cut_part site.now.pages site.now.number suffix.now self.old (block_part (here_at site.now) from self.old full term block.now)).out) }
         ensures built { IfOk result (λ x. IfSome x.1 IsBuiltMessage) }
-        ensures after { OnOk result (self.new ≡ (block_part (here_at site.now) from self.old full term block.now).after) }
+        ensures after { OnOk result (self.new ≡ (cut_part site.now.pages site.now.number suffix.now self.old (block_part (here_at site.now) from self.old full term block.now)).after) }
+        ensures leaves { IfOk result (λ x. leaves x.0 ≡ leaves (block_part (here_at site.now) from self.old full term block.now).answer) }
         ensures pages { length self.new.pages ≡ length self.old.pages }
     {
+        if let Some(told) = self.block_case(site, from, full, term, block)? {
+            return Ok(told);
+        }
+        match how_far(
+            suffix,
+            block_sectors_of(records_size(block.records.as_slice())?),
+            2,
+        ) {
+            Reach::End => {
+                let lsn = self
+                    .end()
+                    .checked_add(block.records.len() as u64)
+                    .ok_or(NoMemory)?;
+                let message = self.ack(lsn);
+                self.append_block(&block.records)?;
+                Ok((Answer::Hardened { lsn }, Some(message)))
+            }
+            Reach::Stop { whole } => {
+                if whole {
+                    self.append_block(&block.records)?;
+                }
+                self.fall(alloc);
+                Ok((stopped(alloc, whole), None))
+            }
+            Reach::Fault => {
+                self.fall(alloc);
+                Ok((device_failed(site), None))
+            }
+        }
+    }
+
+    /// What is done with a block that isn't hardened.
+    #[tactic(auto, unfolding(ag_rules::specs::BlockMessage::block_part))]
+    fn block_case(
+        &self,
+        site: &Site,
+        from: u8,
+        full: bool,
+        term: u64,
+        block: &Block,
+    ) -> Result<Option<(Answer, Option<Message>)>, NoMemory>
+        ensures part { IfOk result (λ told. MatchOption told (block_part (here_at site.now) from self.now full term block.now ≡ hardens_block from self.now block.now) (λ x. block_part (here_at site.now) from self.now full term block.now ≡ sending x.0 (posting_of from x.1) self.now)) }
+        ensures built { IfOk result (λ told. IfSome told (λ x. IfSome x.1 IsBuiltMessage)) }
+        ensures follows { IfOk result (λ told. IfNone told (self.now.leads ≡ false)) }
+        ensures state { IfOk result (λ told. IfNone told ((self.now.state == 1) ≡ true)) }
+    {
         if self.leads() || term != TERM || !self.follows() {
-            return Ok((Answer::No(Refusal::Nothing), None));
+            return Ok(Some((Answer::No(Refusal::Nothing), None)));
         }
         let end = self.end();
         let expected = end.checked_add(1).ok_or(NoMemory)?;
         if expected < block.first {
             let first = block.first;
-            return Ok((Answer::No(Refusal::Gap { expected, first }), None));
+            return Ok(Some((Answer::No(Refusal::Gap { expected, first }), None)));
         }
         if full {
-            return Ok((
-                Answer::No(Refusal::LinkFull {
-                    node: site.number,
-                    to: from,
-                }),
-                None,
-            ));
+            let node = site.number;
+            return Ok(Some((Answer::No(Refusal::LinkFull { node, to: from }), None)));
         }
         if block.first <= end {
-            return Ok((Answer::No(Refusal::Nothing), Some(self.ack(end))));
+            return Ok(Some((Answer::No(Refusal::Nothing), Some(self.ack(end)))));
         }
-        if let Some(why) = self.block_refusal(block.records.as_slice())? {
-            return Ok((Answer::No(why), None));
+        match self.block_refusal(block.records.as_slice())? {
+            Some(why) => Ok(Some((Answer::No(why), None))),
+            None => Ok(None),
         }
-        let lsn = end.checked_add(block.records.len() as u64).ok_or(NoMemory)?;
-        let message = self.ack(lsn);
-        self.append_block(&block.records)?;
-        Ok((Answer::Hardened { lsn }, Some(message)))
     }
 
     /// Why the log has no room for a block of these records, if it has none.

@@ -1,9 +1,10 @@
 //! What the events of a primary do.
-ghost use Rattle.std.specs.Prelude.{◌≡◌, ◌+◌, ◌-◌, ◌≤◌, ◌==◌, ◌∷◌, [], IfOk, OnOk, IfSome, length, false, true, MatchOption, nat_eq};
+ghost use Rattle.std.specs.Prelude.{◌≡◌, ◌+◌, ◌-◌, ◌≤◌, ◌==◌, ◌∷◌, [], IfOk, OnOk, IfSome, IfNone, length, false, true, MatchOption, nat_eq};
 ghost use Rattle.std.specs.List.{AllByRecursion};
 ghost use Rattle.ag_model.specs.Sizes.{records_size as size_of_records};
-ghost use Rattle.ag_model.specs.Blocks.{after_to};
-ghost use Rattle.ag_rules.specs.Replica.{end, full_end, peer, records, with_peer};
+ghost use Rattle.ag_model.specs.Blocks.{after_to, with_block};
+ghost use Rattle.ag_rules.specs.Plan.{Block_write, refused};
+ghost use Rattle.ag_rules.specs.Replica.{end, fallen, full_end, peer, records, with_peer};
 ghost use Rattle.ag_rules.specs.Promotion.{log_check, is_spent};
 ghost use Rattle.ag_rules.specs.SetEvent.{set_part, sets, pairs_pass, records_of_set};
 ghost use Rattle.ag_rules.specs.Redo.{due_pages};
@@ -14,17 +15,20 @@ ghost use Rattle.ag_built.specs.Built.{IsBuiltMessage, IsPair};
 ghost use Rattle.ag_built.specs.Whole.{IsWhole};
 ghost use Rattle.ag_node.specs.Out.{posting_of};
 ghost use Rattle.ag_node.specs.Sites.{here_at};
+ghost use Rattle.ag_node.specs.Suffixes.{cut_part};
+ghost use Rattle.ag_node.specs.Reaching.{kept_of_write};
 ghost use Rattle.ag_node.specs.Nodes.{IsRefusedBy};
 
-use super::{Node, TERM, down, not_primary};
+use super::{Node, TERM, device_failed, down, not_primary, stopped};
 use crate::listed::records_of_set;
 use crate::marks::mark;
+use crate::reach::{Reach, how_far};
 use crate::room::{first_full, spend};
 use crate::site::Site;
 use crate::stripes::Stripes;
-use ag_logstore::records_size;
+use ag_logstore::{block_sectors_of, records_size};
 use ag_model::answer::{Answer, Refusal};
-use ag_model::event::{Pair, PairList};
+use ag_model::event::{Pair, PairList, Suffix};
 use ag_model::message::{Block, Body, Message};
 use ag_model::value::NoMemory;
 use std::alloc::Global;
@@ -42,6 +46,7 @@ impl Node {
         requires values { AllByRecursion IsPair pairs.now }
         ensures answer { IfOk result (λ a. a ≡ (set_part (here_at site.now) self.old pairs.now).answer) }
         ensures after { OnOk result (self.new ≡ (set_part (here_at site.now) self.old pairs.now).after) }
+        ensures writes { OnOk result ((set_part (here_at site.now) self.old pairs.now).writes ≡ []) }
         ensures pages { length self.new.pages ≡ length self.old.pages }
     {
         if !self.is_up() {
@@ -81,6 +86,7 @@ impl Node {
         requires few { length pairs.now ≤ 8 }
         requires values { AllByRecursion IsPair pairs.now }
         ensures answer { IfOk result (λ a. a ≡ (pairs_pass (here_at site.now) self.old (self.old.leading.last_txn + 1) [] pairs.now (sets self.old (records_of_set site.now.pages (self.old.leading.last_txn + 1) pairs.now))).answer) }
+        ensures writes { OnOk result ((pairs_pass (here_at site.now) self.old (self.old.leading.last_txn + 1) [] pairs.now (sets self.old (records_of_set site.now.pages (self.old.leading.last_txn + 1) pairs.now))).writes ≡ []) }
         ensures after { OnOk result (self.new ≡ (pairs_pass (here_at site.now) self.old (self.old.leading.last_txn + 1) [] pairs.now (sets self.old (records_of_set site.now.pages (self.old.leading.last_txn + 1) pairs.now))).after) }
         ensures pages { length self.new.pages ≡ length self.old.pages }
     {
@@ -103,28 +109,81 @@ impl Node {
         Ok(Answer::Lsn { lsn })
     }
 
-    /// `harden` at this replica: the buffer becomes a block.
-    #[tactic(auto, unfolding(ag_rules::specs::HardenEvent::harden_part))]
-    pub fn harden(&mut self, site: &Site) -> Result<Answer, NoMemory>
+    /// `harden` at this replica: the buffer becomes a block. Its write may be stopped, or its write or its sync fail.
+    pub fn harden(
+        &mut self,
+        alloc: Global,
+        site: &Site,
+        suffix: &Suffix,
+    ) -> Result<Answer, NoMemory>
         requires pages { site.now.pages ≡ length self.old.pages }
-        ensures answer { IfOk result (λ a. a ≡ (harden_part (here_at site.now) self.old).answer) }
-        ensures after { OnOk result (self.new ≡ (harden_part (here_at site.now) self.old).after) }
+        ensures answer { IfOk result (λ a. a ≡ (cut_part site.now.pages site.now.number suffix.now self.old (harden_part (here_at site.now) self.old)).answer) }
+        ensures after { OnOk result (self.new ≡ (cut_part site.now.pages site.now.number suffix.now self.old (harden_part (here_at site.now) self.old)).after) }
         ensures pages { length self.new.pages ≡ length self.old.pages }
     {
-        if !self.is_up() {
-            return Ok(down(site));
-        }
-        if !self.leads() {
-            return Ok(not_primary(site));
-        }
-        if self.is_buffer_empty() {
-            return Ok(Answer::No(Refusal::Nothing));
-        }
-        if let Some(why) = self.buffer_refusal()? {
+        if let Some(why) = self.harden_refusal(site)? {
             return Ok(Answer::No(why));
         }
-        let lsn = self.harden_buffer(site.pages)?;
-        Ok(Answer::Hardened { lsn })
+        match how_far(suffix, block_sectors_of(self.buffered), 2) {
+            Reach::End => {
+                let lsn = self.harden_buffer(site.pages)?;
+                Ok(Answer::Hardened { lsn })
+            }
+            Reach::Stop { whole } => {
+                self.stop_harden(alloc, whole)?;
+                Ok(stopped(alloc, whole))
+            }
+            Reach::Fault => {
+                self.fall(alloc);
+                Ok(device_failed(site))
+            }
+        }
+    }
+
+    /// Why the buffer isn't hardened, if it isn't.
+    #[tactic(auto, unfolding(ag_rules::specs::HardenEvent::harden_part))]
+    fn harden_refusal(&self, site: &Site) -> Result<Option<Refusal>, NoMemory>
+        ensures part { IfOk result (λ w. MatchOption w (harden_part (here_at site.now) self.now ≡ hardens site.now.pages self.now (due_pages site.now.pages (hardened_one site.now.pages self.now))) (λ why. harden_part (here_at site.now) self.now ≡ refused why self.now)) }
+        ensures leads { IfOk result (λ w. IfNone w (self.now.leads ≡ true)) }
+        ensures some { IfOk result (λ w. IfNone w ((length self.now.leading.buffer == 0) ≡ false)) }
+    {
+        if !self.is_up() {
+            return Ok(Some(Refusal::Down { node: site.number }));
+        }
+        if !self.leads() {
+            return Ok(Some(Refusal::NotPrimary {
+                node: site.number,
+                primary: site.store.primary,
+            }));
+        }
+        if self.is_buffer_empty() {
+            return Ok(Some(Refusal::Nothing));
+        }
+        self.buffer_refusal()
+    }
+
+    /// The write of the buffer's block is stopped, and the node goes down. The block is there where all of it was kept.
+    fn stop_harden(&mut self, alloc: Global, whole: bool) -> Result<(), NoMemory>
+        requires some { (length self.old.leading.buffer == 0) ≡ false }
+        ensures after { OnOk result (self.new ≡ fallen self.old (kept_of_write whole self.old.kept (Block_write self.old.leading.buffer))) }
+        ensures pages { length self.new.pages ≡ length self.old.pages }
+    {
+        if whole {
+            self.keep_buffer()?;
+        }
+        self.fall(alloc);
+        Ok(())
+    }
+
+    /// Moves the buffer into the log, as a block.
+    fn keep_buffer(&mut self) -> Result<(), NoMemory>
+        requires some { (length self.old.leading.buffer == 0) ≡ false }
+        ensures after { OnOk result (self.new ≡ record self.old { kept = record self.old.kept { log = with_block self.old.kept.log self.old.leading.buffer }; leading = record self.old.leading { buffer = [] } }) }
+        ensures pages { length self.new.pages ≡ length self.old.pages }
+    {
+        self.log.append(&mut self.buffer)?;
+        self.buffered = 0;
+        Ok(())
     }
 
     fn is_buffer_empty(&self) -> bool

@@ -1,17 +1,21 @@
 //! Crash, start, and what a replica says of itself.
-ghost use Rattle.std.specs.Prelude.{◌≡◌, ◌+◌, ◌<◌, [], false, true, IfOk, OnOk, MatchOption, length};
-ghost use Rattle.ag_rules.specs.Replica.{end, fallen, is_reverting, records};
-ghost use Rattle.ag_rules.specs.Promotion.{is_spent, promotion_records};
+ghost use Rattle.std.specs.Prelude.{◌≡◌, ◌+◌, ◌<◌, [], ◌∷◌, false, true, IfOk, OnOk, IfSome, IfNone, length};
+ghost use Rattle.ag_rules.specs.Replica.{end, fallen, records};
+ghost use Rattle.ag_rules.specs.Plan.{Master_write, refused, written};
+ghost use Rattle.ag_rules.specs.Promotion.{promotion_records};
 ghost use Rattle.ag_rules.specs.Redo.{touched_up_to};
 ghost use Rattle.ag_rules.specs.CrashEvent.{crash_part};
-ghost use Rattle.ag_rules.specs.StartEvent.{start_part, starts_first, starts_second};
+ghost use Rattle.ag_rules.specs.StartEvent.{start_part, started_master, starts_first, starts_second};
 ghost use Rattle.ag_rules.specs.LookEvent.{status_part, printed_state, role_of};
 ghost use Rattle.ag_node.specs.Sites.{here_at, here_among};
+ghost use Rattle.ag_node.specs.Starting.{CanStart};
+ghost use Rattle.ag_node.specs.Suffixes.{cut_part};
 
-use super::{Node, TERM, down};
+use super::{Node, TERM, device_failed, down, stopped};
 use crate::activity::Activity;
 use crate::marks::mark_to_end;
 use crate::opening::strangers;
+use crate::reach::{Reach, how_far};
 use crate::room::used_in;
 use crate::site::Site;
 use crate::stripes::Stripes;
@@ -19,6 +23,7 @@ use crate::txns::last_txn;
 use ag_cluster::members::has_member;
 use ag_model::answer::{Answer, Refusal, Role};
 use ag_model::config::Mode;
+use ag_model::event::Suffix;
 use ag_model::list::ListOf;
 use ag_model::value::NoMemory;
 use std::alloc::Global;
@@ -29,6 +34,7 @@ impl Node {
     pub fn crash(&mut self, alloc: Global, site: &Site) -> Answer
         ensures answer { result ≡ (crash_part (here_at site.now) self.old).answer }
         ensures after { self.new ≡ (crash_part (here_at site.now) self.old).after }
+        ensures writes { (crash_part (here_at site.now) self.old).writes ≡ [] }
         ensures pages { length self.new.pages ≡ length self.old.pages }
     {
         if !self.is_up() {
@@ -39,7 +45,7 @@ impl Node {
     }
 
     /// Forgets what a crash loses.
-    fn fall(&mut self, alloc: Global)
+    pub(super) fn fall(&mut self, alloc: Global)
         ensures after { self.new ≡ fallen self.old self.old.kept }
         ensures pages { length self.new.pages ≡ length self.old.pages }
     {
@@ -59,21 +65,77 @@ impl Node {
     }
 
     /// `start` at this replica: it comes up from its log and its master, as primary exactly where the store names it. The
-    /// replicas of the group have these modes.
-    #[tactic(auto, unfolding(ag_rules::specs::StartEvent::start_part))]
-    pub fn start(&mut self, alloc: Global, site: &Site, modes: &[Mode]) -> Result<Answer, NoMemory>
+    /// replicas of the group have these modes. The write of the master may be stopped, or the barrier's sync, that write or
+    /// its sync fail.
+    pub fn start(
+        &mut self,
+        alloc: Global,
+        site: &Site,
+        modes: &[Mode],
+        suffix: &Suffix,
+    ) -> Result<Answer, NoMemory>
         requires pages { site.now.pages ≡ length self.old.pages }
         requires term { site.now.store.term ≡ 1 }
+        ensures answer { IfOk result (λ a. a ≡ (cut_part site.now.pages site.now.number suffix.now self.old (start_part (here_among site.now modes.now) self.old)).answer) }
+        ensures after { OnOk result (self.new ≡ (cut_part site.now.pages site.now.number suffix.now self.old (start_part (here_among site.now modes.now) self.old)).after) }
+        ensures pages { length self.new.pages ≡ length self.old.pages }
+    {
+        if let Some(why) = self.start_refusal(site, modes) {
+            return Ok(Answer::No(why));
+        }
+        match how_far(suffix, 1, 3) {
+            Reach::End => {
+                let answer = self.start_whole(alloc, site, modes)?;
+                Ok(answer)
+            }
+            Reach::Stop { whole } => {
+                if whole {
+                    self.raise_incarnation()?;
+                }
+                self.fall(alloc);
+                Ok(stopped(alloc, whole))
+            }
+            Reach::Fault => {
+                self.fall(alloc);
+                Ok(device_failed(site))
+            }
+        }
+    }
+
+    /// Why it can't start, if it can't.
+    #[tactic(auto, unfolding(ag_rules::specs::StartEvent::start_part))]
+    fn start_refusal(&self, site: &Site, modes: &[Mode]) -> Option<Refusal>
+        requires pages { site.now.pages ≡ length self.now.pages }
+        requires term { site.now.store.term ≡ 1 }
+        ensures part { IfSome result (λ why. start_part (here_among site.now modes.now) self.now ≡ refused why self.now) }
+        ensures can { IfNone result (CanStart self.now) }
+        ensures writes { IfNone result ((start_part (here_among site.now modes.now) self.now).writes ≡ [] ∷ (Master_write (started_master self.now) (end self.now) ∷ []) ∷ []) }
+    {
+        let _ = modes;
+        if self.activity.up {
+            return Some(Refusal::Nothing);
+        }
+        if self.activity.incarnation >= 9_223_372_036_854_775_808 {
+            return Some(Refusal::Spent);
+        }
+        None
+    }
+
+    /// Starts, where it can.
+    fn start_whole(
+        &mut self,
+        alloc: Global,
+        site: &Site,
+        modes: &[Mode],
+    ) -> Result<Answer, NoMemory>
+        requires pages { site.now.pages ≡ length self.old.pages }
+        requires term { site.now.store.term ≡ 1 }
+        requires can { CanStart self.old }
         ensures answer { IfOk result (λ a. a ≡ (start_part (here_among site.now modes.now) self.old).answer) }
         ensures after { OnOk result (self.new ≡ (start_part (here_among site.now modes.now) self.old).after) }
         ensures pages { length self.new.pages ≡ length self.old.pages }
     {
-        if self.is_up() {
-            return Ok(Answer::No(Refusal::Nothing));
-        }
-        let Some(incarnation) = self.next_incarnation() else {
-            return Ok(Answer::No(Refusal::Spent));
-        };
+        let incarnation = self.next_incarnation()?;
         if site.store.primary == site.number {
             let answer = self.start_first(alloc, site, modes, incarnation)?;
             Ok(answer)
@@ -82,18 +144,20 @@ impl Node {
         }
     }
 
-    /// The incarnation after this one, unless it may not be raised.
-    fn next_incarnation(&self) -> Option<u64>
-        ensures next { MatchOption result (is_spent self.now.kept.master.incarnation ≡ true) (λ n. (is_spent self.now.kept.master.incarnation ≡ false) × (n ≡ self.now.kept.master.incarnation + 1)) }
-        ensures told { self.now.cut_off ≡ false }
-        ensures steady { is_reverting self.now.state ≡ false }
+    /// The incarnation after this one.
+    fn next_incarnation(&self) -> Result<u64, NoMemory>
+        ensures { IfOk result (λ n. n ≡ self.now.kept.master.incarnation + 1) }
     {
-        let incarnation = self.activity.incarnation;
-        if incarnation >= 9_223_372_036_854_775_808 {
-            None
-        } else {
-            Some(incarnation + 1)
-        }
+        Ok(self.activity.incarnation.checked_add(1).ok_or(NoMemory)?)
+    }
+
+    /// Writes the master of a node that starts.
+    fn raise_incarnation(&mut self) -> Result<(), NoMemory>
+        ensures after { OnOk result (self.new ≡ record self.old { kept = written self.old.kept (Master_write (started_master self.old) (end self.old)) }) }
+        ensures pages { length self.new.pages ≡ length self.old.pages }
+    {
+        self.activity.incarnation = self.next_incarnation()?;
+        Ok(())
     }
 
     /// Starts as a secondary, and redoes the log.
@@ -173,6 +237,7 @@ impl Node {
         requires number { site.now.number < 16 }
         ensures answer { result ≡ (status_part (here_at site.now) self.now).answer }
         ensures left { (status_part (here_at site.now) self.now).after ≡ self.now }
+        ensures writes { (status_part (here_at site.now) self.now).writes ≡ [] }
     {
         if !self.is_up() {
             return down(site);

@@ -25,7 +25,7 @@ returns-in-Err-Events-clause-complete g c d events h calm =
 
 pub returns-in-Ok-run_events-clause-done : goal.returns-in-Ok-run_events-clause-done
 returns-in-Ok-run_events-clause-done g c e =
-    played c.args.text.now c.in-Some.script.now c.in-Ok.c c.in-Ok-read_events.events _ _ c.requires c.in-Some.ensures.found c.in-Ok.ensures.value c.in-Ok.ensures.config c.in-Ok-read_events.ensures.script c.in-Ok-read_events.ensures.in_range c.reads_right.ensures.reads c.sessions_never_fall.ensures.sessions (rw c.as_slice.ensures at c.in-Ok-run_events.ensures.ok)
+    played c.args.text.now c.in-Some.script.now c.in-Ok.c c.in-Ok-read_events.events _ _ c.requires c.in-Some.ensures.found c.in-Ok.ensures.value c.in-Ok.ensures.config c.in-Ok-read_events.ensures.script c.in-Ok-read_events.ensures.in_range c.reads_right.ensures.reads c.sessions_never_fall.ensures.sessions c.failovers_keep_commits.ensures.kept c.reverted_as_restored.ensures.reverted (rw c.as_slice.ensures at c.in-Ok-run_events.ensures.ok)
 
 pub returns-in-Ok-run_events-clause-part : goal.returns-in-Ok-run_events-clause-part
 returns-in-Ok-run_events-clause-part g c =

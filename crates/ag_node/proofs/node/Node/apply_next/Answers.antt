@@ -3,7 +3,7 @@ use Rattle.std.proofs.lemmas.List.{with_items_is, drop-take}
 use Rattle.ag_model.specs.declared.record.Record.{Record}
 use Rattle.ag_model.specs.Blocks.{after_to, next_end}
 use Rattle.ag_node.specs.Marked.{marked_of}
-use Rattle.ag_node.proofs.NodeSteps.{node_applied}
+use Rattle.ag_node.proofs.NodeSteps.{node_applied, applies_nothing}
 use Rattle.ag_node.proofs.node.Node.apply_next.Goals as goal
 
 pub returns-clause-after : goal.returns-clause-after
@@ -20,3 +20,8 @@ returns-clause-after c =
     (with_items_is n.dirty c.mark.new.dirty long ∙ c.mark.ensures
     ∙ (λ i. marked_of (Some c.args.x) (take (high - low) (drop low (c.records.ensures i))) (c.as_mut_slice.ensures.value i))
     ∙ ap (λ (rs : List Record). marked_of (Some c.args.x) rs n.dirty.items) (new ∙ ap (λ lsn. after_to lsn high n.log.records) c.applied-applied.ensures))
+
+pub returns-clause-writes : goal.returns-clause-writes
+returns-clause-writes c =
+    let n = c.self.inside in
+    applies_nothing n.activity n.log n.stripes n.dirty.items n.buffer n.last_txn n.synced n.peers.items c.args.self.now c.args.pages c.args.x c.self.view_is c.requires.pages

@@ -2,7 +2,7 @@ use Rattle.std.proofs.Common.{◌≡◌, length, ap, ◌∙◌, arith}
 use Rattle.std.proofs.lemmas.List.{with_items_is}
 use Rattle.ag_rules.specs.Replica.{all_at}
 use Rattle.ag_node.specs.Marked.{marked_to_end}
-use Rattle.ag_node.proofs.NodeSteps.{node_redone}
+use Rattle.ag_node.proofs.NodeSteps.{node_redone, redoes_nothing}
 use Rattle.ag_node.proofs.node.Node.redo_all.Goals as goal
 
 pub returns-clause-after : goal.returns-clause-after
@@ -13,3 +13,8 @@ returns-clause-after c =
     c.self.view_is c.requires.pages (c.all_at-self-inside.ensures ∙ ap all_at c.end-end.ensures)
     (with_items_is n.dirty c.mark_to_end.new.dirty long ∙ c.mark_to_end.ensures
     ∙ (λ i. marked_to_end n.stripes (c.records-records.ensures i) (c.as_mut_slice.ensures.value i)))
+
+pub returns-clause-writes : goal.returns-clause-writes
+returns-clause-writes c =
+    let n = c.self.inside in
+    redoes_nothing n.activity n.log n.stripes n.dirty.items n.buffer n.last_txn n.synced n.peers.items c.args.self.now c.args.pages c.self.view_is c.requires.pages

@@ -3,7 +3,7 @@ use Rattle.ag_model.specs.Page.{value}
 use Rattle.ag_model.specs.Rows.{rows}
 use Rattle.ag_rules.specs.Replica.{no_stripe}
 use Rattle.ag_node.specs.Sites.{here_at}
-use Rattle.ag_node.proofs.NodeSteps.{IsHorizon, read_too_old, read_row, read_left, front_within}
+use Rattle.ag_node.proofs.NodeSteps.{IsHorizon, read_too_old, read_row, read_left, front_within, read_nothing}
 use Rattle.ag_node.proofs.node.Node.row_at_front.Goals as goal
 
 pub row_at-requires : goal.row_at-requires
@@ -40,3 +40,13 @@ pub returns-clause-left : goal.returns-clause-left
 returns-clause-left c =
     let n = c.self.inside in
     read_left n.activity n.log n.stripes n.dirty.items n.buffer n.last_txn n.synced n.peers.items c.args.self.now (here_at c.args.site.now) c.args.key c.self.view_is
+
+pub returns-then-front-horizon-clause-writes : goal.returns-then-front-horizon-clause-writes
+returns-then-front-horizon-clause-writes c =
+    let n = c.self.inside in
+    read_nothing n.activity n.log n.stripes n.dirty.items n.buffer n.last_txn n.synced n.peers.items c.args.self.now (here_at c.args.site.now) c.args.key c.self.view_is
+
+pub returns-clause-writes : goal.returns-clause-writes
+returns-clause-writes c =
+    let n = c.self.inside in
+    read_nothing n.activity n.log n.stripes n.dirty.items n.buffer n.last_txn n.synced n.peers.items c.args.self.now (here_at c.args.site.now) c.args.key c.self.view_is

@@ -12,7 +12,7 @@ use Rattle.ag_node.specs.Sites.{here_at}
 use Rattle.ag_node.specs.Room.{first_full, used_after}
 use Rattle.ag_node.specs.Nodes.{leading_of}
 use Rattle.ag_node.proofs.NodeSteps.{pages_are}
-use Rattle.ag_node.proofs.NodeSets.{set_by_room, set_refused, set_full, set_done, node_after_set}
+use Rattle.ag_node.proofs.NodeSets.{set_of, set_by_room, set_refused, set_full, set_done, set_nothing, node_after_set}
 use Rattle.ag_node.proofs.node.Node.set_pairs.Goals as goal
 
 pub returns-in-Some-clause-answer : goal.returns-in-Some-clause-answer
@@ -101,3 +101,21 @@ returns-clause-after c =
     let pushed : c.append.new.self ≡ n.buffer ++ records_of_set c.args.site.now.pages (n.last_txn + 1) c.args.pairs.now = c.in_ok-append.ensures.ok ∙ ap (λ (x : List Record). n.buffer ++ x) new in
     (set_done _ c.args.self.now _ _ _ (records_of_set c.args.site.now.pages (n.last_txn + 1) c.args.pairs.now) c.in_ok-need.need c.saturating_sub-free.result c.in_ok-lsn.lsn c.self.view_is by fits (need ∙ ap records_size new) free c.if-free-need.false lsn
     (λ i. node_of n.activity n.log n.stripes n.dirty.items (leading_of (pushed i) (txn i) n.synced n.peers.items))).left
+
+pub returns-in-Some-clause-writes : goal.returns-in-Some-clause-writes
+returns-in-Some-clause-writes c =
+    let n = c.self.inside in
+    set_nothing (node_of n.activity n.log n.stripes n.dirty.items (leading_of n.buffer n.last_txn n.synced n.peers.items)) (set_of (here_at c.args.site.now) c.args.self.now c.args.pairs.now) (first_full c.args.site.now.pages n.used.items [] c.args.pairs.now) (records_of_set c.args.site.now.pages (n.last_txn + 1) c.args.pairs.now)
+    (set_by_room n.activity n.log n.stripes n.dirty.items n.buffer n.buffered n.last_txn n.synced n.peers.items n.used.items c.args.self.now (here_at c.args.site.now) c.args.pairs.now c.self.view_is c.requires.pages c.self.invariant c.requires.leads)
+
+pub returns-then-free-need-clause-writes : goal.returns-then-free-need-clause-writes
+returns-then-free-need-clause-writes c =
+    let n = c.self.inside in
+    set_nothing (node_of n.activity n.log n.stripes n.dirty.items (leading_of n.buffer n.last_txn n.synced n.peers.items)) (set_of (here_at c.args.site.now) c.args.self.now c.args.pairs.now) (first_full c.args.site.now.pages n.used.items [] c.args.pairs.now) (records_of_set c.args.site.now.pages (n.last_txn + 1) c.args.pairs.now)
+    (set_by_room n.activity n.log n.stripes n.dirty.items n.buffer n.buffered n.last_txn n.synced n.peers.items n.used.items c.args.self.now (here_at c.args.site.now) c.args.pairs.now c.self.view_is c.requires.pages c.self.invariant c.requires.leads)
+
+pub returns-clause-writes : goal.returns-clause-writes
+returns-clause-writes c =
+    let n = c.self.inside in
+    set_nothing (node_of n.activity n.log n.stripes n.dirty.items (leading_of n.buffer n.last_txn n.synced n.peers.items)) (set_of (here_at c.args.site.now) c.args.self.now c.args.pairs.now) (first_full c.args.site.now.pages n.used.items [] c.args.pairs.now) (records_of_set c.args.site.now.pages (n.last_txn + 1) c.args.pairs.now)
+    (set_by_room n.activity n.log n.stripes n.dirty.items n.buffer n.buffered n.last_txn n.synced n.peers.items n.used.items c.args.self.now (here_at c.args.site.now) c.args.pairs.now c.self.view_is c.requires.pages c.self.invariant c.requires.leads)

@@ -1,33 +1,14 @@
-use Rattle.std.proofs.Common.{◌≡◌, ◌∙◌, sym, ap, eq-eqb, ne_eqb}
+use Rattle.std.proofs.Common.{◌≡◌, ◌∙◌, ap, sym}
 use Rattle.ag_rules.specs.Plan.{Part}
-use Rattle.ag_rules.specs.Promotion.{promotion_records}
-use Rattle.ag_rules.specs.Replica.{records}
+use Rattle.ag_rules.specs.Replica.{end}
+use Rattle.ag_rules.specs.StartEvent.{start_part, started_master}
 use Rattle.ag_node.specs.Sites.{here_among}
-use Rattle.ag_node.proofs.StartSteps.{CanStart, starts_as_second, starts_as_first}
+use Rattle.ag_node.proofs.Cutting.{cut_at_master}
 use Rattle.ag_node.proofs.node.Node.start.Goals as goal
 
-pub returns-in_ok-answer-clause-answer : goal.returns-in_ok-answer-clause-answer
-returns-in_ok-answer-clause-answer c =
+pub returns-after-whole-clause-answer : goal.returns-after-whole-clause-answer
+returns-after-whole-clause-answer c =
+    let r = c.args.self.now in
     let site = c.args.site.now in
-    let can : CanStart c.args.self.now = record { down = sym c.is_up.ensures ∙ c.if-is_up.false; told = c.next_incarnation.ensures.told; unspent = c.in-Some.ensures.next.0; steady = c.next_incarnation.ensures.steady } in
-    let none = ap (λ t. promotion_records site.pages t (records c.args.self.now)) c.requires.term ∙ c.in_ok-answer.ensures.none in
-    c.in_ok-answer.ensures.answer ∙ ap (λ (x : Part). x.answer) (sym (starts_as_first (here_among site c.args.modes.now) c.args.self.now can (eq-eqb site.store.primary site.number c.if-site.true) none))
-
-pub returns-in_ok-answer-clause-after : goal.returns-in_ok-answer-clause-after
-returns-in_ok-answer-clause-after c =
-    let site = c.args.site.now in
-    let can : CanStart c.args.self.now = record { down = sym c.is_up.ensures ∙ c.if-is_up.false; told = c.next_incarnation.ensures.told; unspent = c.in-Some.ensures.next.0; steady = c.next_incarnation.ensures.steady } in
-    let none = ap (λ t. promotion_records site.pages t (records c.args.self.now)) c.requires.term ∙ c.in_ok-answer.ensures.none in
-    c.in_ok-answer.ensures.after ∙ ap (λ (x : Part). x.after) (sym (starts_as_first (here_among site c.args.modes.now) c.args.self.now can (eq-eqb site.store.primary site.number c.if-site.true) none))
-
-pub returns-else-site-clause-answer : goal.returns-else-site-clause-answer
-returns-else-site-clause-answer c =
-    let site = c.args.site.now in
-    let can : CanStart c.args.self.now = record { down = sym c.is_up.ensures ∙ c.if-is_up.false; told = c.next_incarnation.ensures.told; unspent = c.in-Some.ensures.next.0; steady = c.next_incarnation.ensures.steady } in
-    c.start_second.ensures.answer ∙ ap (λ (x : Part). x.answer) (sym (starts_as_second (here_among site c.args.modes.now) c.args.self.now can (ne_eqb site.store.primary site.number c.if-site.false)))
-
-pub returns-else-site-clause-after : goal.returns-else-site-clause-after
-returns-else-site-clause-after c =
-    let site = c.args.site.now in
-    let can : CanStart c.args.self.now = record { down = sym c.is_up.ensures ∙ c.if-is_up.false; told = c.next_incarnation.ensures.told; unspent = c.in-Some.ensures.next.0; steady = c.next_incarnation.ensures.steady } in
-    c.start_second.ensures.after ∙ ap (λ (x : Part). x.after) (sym (starts_as_second (here_among site c.args.modes.now) c.args.self.now can (ne_eqb site.store.primary site.number c.if-site.false)))
+    let cut = cut_at_master site.pages site.number c.args.suffix.now r (start_part (here_among site c.args.modes.now) r) (started_master r) (end r) c.how_far.result _ c.in_default.ensures.writes c.how_far.ensures c.in-Stop.is in
+    c.stopped.ensures ∙ ap (λ (x : Part). x.answer) (sym cut)

@@ -1,0 +1,17 @@
+mod Merging
+mod Keeps
+mod Opening
+mod Loads
+mod Starts
+mod Taking
+mod Giving
+mod Grabbing
+mod Copies
+mod Ends
+mod Logging
+mod Applying
+mod Waits
+mod Closing
+mod TestPages
+mod TestLogs
+mod Examples

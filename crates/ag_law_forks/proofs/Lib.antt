@@ -1,0 +1,2 @@
+pub mod Forks
+mod Examples

@@ -1,0 +1,5 @@
+pub mod Known
+pub mod Past
+pub mod Tells
+pub mod Holds
+pub mod Laws

@@ -1,0 +1,14 @@
+pub mod Faults
+pub mod Fresh
+pub mod Kept
+pub mod Leading
+pub mod Lists
+pub mod Mixed
+pub mod Moving
+pub mod Pages
+pub mod Rising
+pub mod Runs
+pub mod Sixteen
+pub mod Told
+pub mod Unused
+pub mod Writings

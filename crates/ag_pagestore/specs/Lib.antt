@@ -1,0 +1,10 @@
+pub mod Faults
+pub mod Places
+pub mod Found
+pub mod Batches
+pub mod Moments
+pub mod Stopped
+pub mod Calling
+pub mod Homes
+pub mod HomeLaws
+pub mod Stores
