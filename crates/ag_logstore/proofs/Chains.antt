@@ -1,15 +1,12 @@
 -- Blocks that stand one after the other.
-use Rattle.std.proofs.Common.{◌≡◌, ◌⊎◌, ℕ, zero, suc, ◌+◌, ◌-◌, ◌^◌, ◌<◌, ◌≤◌, List, [], ◌∷◌, ◌++◌, length, refl, sym, ap, ◌∙◌, subst, arith, inl, inr, length-append}
-use Rattle.std.proofs.lemmas.List.Sums.{fold-append}
+use Rattle.std.proofs.Common.{◌≡◌, ℕ, ◌+◌, ◌<◌, ◌≤◌, List, [], ◌∷◌, ◌++◌, length, refl, sym, ap, ◌∙◌, subst, arith, length-append}
 use Rattle.std.specs.List.{fold}
-use Rattle.ag_model.specs.declared.record.Record.{Record}
 use Rattle.ag_model.specs.declared.record.Log.{Log}
 use Rattle.ag_model.specs.Blocks.{with_block}
-use Rattle.ag_model.specs.Sizes.{block_sectors, log_sectors}
-use Rattle.ag_logblock.specs.declared.Head.{Head}
+use Rattle.ag_model.specs.Sizes.{block_sectors}
 use Rattle.ag_outside.specs.Disks.{Image, or_zeros}
 use Rattle.ag_logstore.specs.LogKept.{RisesTo}
-use Rattle.ag_logstore.specs.Stored.{log_start, log_end, IsLogSector, Stored, IsStored, incarnation_at, Place, first_place, after_block, place_after, IsNext, AreStored, no_log, log_of_blocks}
+use Rattle.ag_logstore.specs.Stored.{log_start, log_end, IsLogSector, Stored, incarnation_at, Place, first_place, after_block, place_after, IsNext, AreStored, no_log, log_of_blocks}
 use Rattle.ag_logstore.specs.LogOf.{IsLogOf}
 use Rattle.ag_logstore.specs.Stores.{StoreView, sector_after, IsCurrent}
 use Rattle.ag_logblock.specs.Fitting.{header_of}

@@ -1,8 +1,8 @@
 -- Reading sectors and blocks.
-use Rattle.std.proofs.Common.{◌≡◌, ◌⊎◌, ℕ, zero, suc, ◌+◌, ◌-◌, min, ◌<◌, ◌≤◌, List, [], ◌∷◌, ◌++◌, length, Bool, IsTrue, refl, sym, ap, ◌∙◌, subst, arith, inl, inr, append_assoc}
+use Rattle.std.proofs.Common.{◌≡◌, ℕ, zero, suc, ◌+◌, ◌-◌, min, ◌<◌, ◌≤◌, List, [], ◌∷◌, ◌++◌, length, refl, sym, ap, ◌∙◌, subst, arith, append_assoc}
 use Rattle.std.specs.Prelude.{Option, None, Some, Result, Ok, Err, IfOk}
 use Rattle.std.specs.Option.{MatchOption}
-use Rattle.ag_outside.specs.Disks.{Content, Image, or_zeros}
+use Rattle.ag_outside.specs.Disks.{Image, or_zeros}
 use Rattle.ag_model.specs.Sizes.{block_sectors}
 use Rattle.std.proofs.lemmas.List.Sums.{fold-append}
 use Rattle.ag_model.specs.declared.record.Log.{Log}

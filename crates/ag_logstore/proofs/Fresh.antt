@@ -1,8 +1,7 @@
 -- The log of an image on which no sector names an incarnation.
-use Rattle.std.proofs.Common.{◌≡◌, ℕ, ◌+◌, ◌<◌, ◌≤◌, List, [], ◌∷◌, refl, sym, ap, ◌∙◌, subst, arith}
-use Rattle.ag_model.specs.declared.record.Log.{Log}
-use Rattle.ag_outside.specs.Disks.{Image, or_zeros}
-use Rattle.ag_logstore.specs.Stored.{log_start, log_end, IsLogSector, Stored, incarnation_at, Place, first_place, IsNext, no_log}
+use Rattle.std.proofs.Common.{◌≡◌, ℕ, ◌≤◌, [], arith}
+use Rattle.ag_outside.specs.Disks.{Image}
+use Rattle.ag_logstore.specs.Stored.{log_start, IsLogSector, Stored, incarnation_at, Place, first_place, IsNext, no_log}
 use Rattle.ag_logstore.specs.LogOf.{IsLogOf}
 use Rattle.ag_logstore.specs.Stores.{StoreView, IsCurrent}
 use Rattle.ag_logstore.proofs.Standing.{some_sectors, writable, incarnation_is}

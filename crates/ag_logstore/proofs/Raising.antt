@@ -1,23 +1,22 @@
 -- A log of an image, cut at a block's end.
-use Rattle.std.proofs.Common.{◌≡◌, ◌⊎◌, ℕ, zero, suc, ◌+◌, ◌-◌, ◌<◌, ◌≤◌, List, [], ◌∷◌, ◌++◌, length, get_or, take, refl, sym, ap, ◌∙◌, subst, arith, inl, inr, length-append, append_assoc}
+use Rattle.std.proofs.Common.{◌≡◌, ◌⊎◌, ℕ, zero, suc, ◌+◌, ◌<◌, List, [], ◌∷◌, ◌++◌, length, get_or, refl, sym, ap, ◌∙◌, subst, arith, inl, inr, length-append, append_assoc}
 use Rattle.std.specs.Prelude.{Contains, nat_le}
-use Rattle.std.specs.List.{fold, filter}
+use Rattle.std.specs.List.{fold}
 use Rattle.std.proofs.lemmas.List.{take_at, append-nil, get_or_append_left}
 use Rattle.std.proofs.lemmas.List.Sums.{fold-append}
 use Rattle.std.proofs.lemmas.List.Elements.{filter-append}
 use Rattle.ag_model.specs.declared.record.Record.{Record}
 use Rattle.ag_model.specs.declared.record.Log.{Log}
 use Rattle.ag_model.specs.Blocks.{with_block, cut_at}
-use Rattle.ag_record.specs.Spelling.{ArePayload}
 use Rattle.ag_outside.specs.Disks.{Image}
 use Rattle.ag_logstore.specs.LogKept.{RisesTo}
-use Rattle.ag_logstore.specs.Stored.{log_start, log_end, IsLogSector, Stored, incarnation_at, Place, first_place, after_block, place_after, IsNext, AreStored, no_log, log_of_blocks}
+use Rattle.ag_logstore.specs.Stored.{IsLogSector, Stored, incarnation_at, Place, first_place, after_block, place_after, IsNext, AreStored, no_log, log_of_blocks}
 use Rattle.ag_logstore.specs.LogOf.{IsLogOf}
-use Rattle.ag_logstore.specs.Stores.{StoreView, sector_after, IsCurrent}
+use Rattle.ag_logstore.specs.Stores.{StoreView, IsCurrent}
 use Rattle.ag_logstore.proofs.Cuts.{to_end, kept_all, gone_all}
 use Rattle.ag_logstore.proofs.Fitting.{payload_some}
 use Rattle.ag_logstore.proofs.Standing.{some_sectors, writable, incarnation_is}
-use Rattle.ag_logstore.proofs.Chains.{front_part, back_part, log_from, places_rise, Ends, ends_of, ends_after, ends_first}
+use Rattle.ag_logstore.proofs.Chains.{front_part, back_part, log_from, places_rise, ends_after, ends_first}
 
 -- where the blocks after an LSN end
 abbrev ends_from : ℕ → List Stored → List ℕ

@@ -1,5 +1,5 @@
 -- Calls of a disk one after the other.
-use Rattle.std.proofs.Common.{◌≡◌, ◌⊎◌, ℕ, ◌+◌, ◌≤◌, List, [], ◌∷◌, ◌++◌, Bool, Result, Ok, Err, refl, sym, ap, ◌∙◌, subst, arith, inl, inr, ⊎_elim, append_assoc}
+use Rattle.std.proofs.Common.{◌≡◌, ◌⊎◌, ℕ, ◌≤◌, List, [], ◌∷◌, ◌++◌, Bool, Result, Ok, Err, refl, sym, ap, ◌∙◌, subst, arith, inl, inr, ⊎_elim, append_assoc}
 use Rattle.std.specs.Prelude.{IsErrOf}
 use Rattle.std.specs.Result.{IsErrAnd}
 use Rattle.ag_outside.specs.declared.disk.Found.{Found}
@@ -7,7 +7,7 @@ use Rattle.ag_outside.specs.declared.disk.DiskError.{DiskError}
 use Rattle.ag_outside.specs.declared.disk.DiskError.TheVariants.{Failed}
 use Rattle.ag_outside.specs.declared.disk.SectorWrite.{SectorWrite}
 use Rattle.ag_outside.specs.Disks.{Content, Image, WroteSo, MayAdd, SameImages, IsImage, Elapses}
-use Rattle.ag_outside.specs.Calls.{Call, Write_call, Read_call, Sync_call, Leads, changing, Piece, IsReadOnly, TakesAll, FailsOnTheWay, FailsAtRead}
+use Rattle.ag_outside.specs.Calls.{Call, Write_call, Read_call, Sync_call, Leads, changing, Piece, IsReadOnly, TakesAll, FailsOnTheWay}
 use Rattle.ag_outside.specs.Moments.{LeavesOnly}
 use Rattle.ag_outside.proofs.Running.{started, goes_on}
 use Rattle.ag_logstore.specs.ReadOnly.{OnlyReads, FailsReading}

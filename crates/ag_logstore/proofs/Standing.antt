@@ -1,19 +1,18 @@
 -- Sectors that stand on a disk, and what they say of a block.
-use Rattle.std.proofs.Common.{◌≡◌, ◌⊎◌, ℕ, zero, suc, ◌+◌, ◌-◌, ◌*◌, ◌/◌, ◌^◌, ◌<◌, ◌≤◌, List, [], ◌∷◌, ◌++◌, length, take, drop, Option, Some, None, refl, sym, ap, ◌∙◌, subst, arith, inl, inr}
-use Rattle.std.proofs.lemmas.Bool.{cases_eq, cases_lt}
+use Rattle.std.proofs.Common.{◌≡◌, ◌⊎◌, ℕ, zero, suc, ◌+◌, ◌/◌, ◌^◌, ◌<◌, ◌≤◌, List, [], ◌∷◌, length, take, drop, Some, refl, sym, ap, ◌∙◌, subst, arith, inl, inr}
+use Rattle.std.proofs.lemmas.Bool.{cases_eq}
 use Rattle.std.proofs.lemmas.List.{length-take}
-use Rattle.ag_model.specs.Sizes.{records_size, block_sectors}
+use Rattle.ag_model.specs.Sizes.{block_sectors}
 use Rattle.ag_record.specs.Spelling.{records_spelling, ArePayload}
 use Rattle.ag_record.proofs.Many.{length-records, records-once}
 use Rattle.ag_logblock.specs.declared.Head.{Head}
-use Rattle.ag_logblock.specs.Block.{sector, sectors_from, sectors_for, block, HasBlock}
+use Rattle.ag_logblock.specs.Block.{sectors_from, sectors_for, HasBlock}
 use Rattle.ag_logblock.specs.Fitting.{header_of}
 use Rattle.ag_logblock.proofs.Wholes.{head_again_of, block-once, length-block}
-use Rattle.ag_outside.specs.declared.disk.SectorWrite.{SectorWrite}
 use Rattle.ag_outside.specs.Disks.{Content, Image, or_zeros, writes, put, put_all, WroteSo}
 use Rattle.ag_outside.specs.Shown.{was_or_wrote}
 use Rattle.ag_outside.proofs.Past.{put-at}
-use Rattle.ag_logstore.specs.Stored.{log_end, Stored, sectors_of, StandAt, IsStored, incarnation_at, sectors_at, AreSectorsOf, named_count}
+use Rattle.ag_logstore.specs.Stored.{Stored, sectors_of, StandAt, IsStored, incarnation_at, sectors_at}
 
 -- all of these sectors have this head and count
 abbrev pub Alike : Head → ℕ → List (List ℕ) → Type 0

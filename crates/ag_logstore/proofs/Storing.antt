@@ -1,22 +1,19 @@
 -- What a store's append makes of its disk.
-use Rattle.std.proofs.Common.{◌≡◌, ◌⊎◌, ℕ, ◌+◌, ◌^◌, ◌<◌, ◌≤◌, List, length, Bool, IsTrue, false, refl, sym, ap, ◌∙◌, subst, arith, inl, inr}
+use Rattle.std.proofs.Common.{◌≡◌, ℕ, ◌+◌, ◌≤◌, List, length, Bool, IsTrue, refl, sym, ap, subst, arith, inl, inr}
 use Rattle.ag_model.specs.declared.message.Block.{Block as BlockOf}
 use Rattle.ag_model.specs.declared.record.Record.{Record}
-use Rattle.ag_model.specs.declared.record.Log.{Log}
-use Rattle.ag_model.specs.Blocks.{with_block}
 use Rattle.ag_model.specs.Sizes.{block_sectors, free_sectors}
 use Rattle.ag_record.specs.Spelling.{records_spelling, ArePayload}
 use Rattle.ag_logblock.specs.Block.{HasBlock}
-use Rattle.ag_outside.specs.Disks.{Content, Image, or_zeros, writes, put_all, WroteSo, Only, IsImage}
+use Rattle.ag_outside.specs.Disks.{Content, Image, or_zeros, writes, put_all, Only, IsImage}
 use Rattle.ag_outside.specs.Moments.{LeavesOnly}
 use Rattle.ag_outside.proofs.Running.{started}
 use Rattle.ag_logstore.specs.Stored.{Stored, sectors_of}
-use Rattle.ag_logstore.specs.LogOf.{IsLogOf}
 use Rattle.ag_logstore.specs.Stores.{StoreView, sector_after, stored_by, IsCurrent, IsReady, IsTorn, Follows, IsBeforeOrAfter}
 use Rattle.ag_logstore.proofs.Standing.{wrote_within, put_stands}
 use Rattle.ag_logstore.proofs.Chains.{region_alone}
 use Rattle.ag_logstore.proofs.Runs.{IsWrittenTo, leaves_so}
-use Rattle.ag_logstore.proofs.Written.{is_writable, outside, whole, old_or_with, current_with, torn_by_writes, store_with, room_is}
+use Rattle.ag_logstore.proofs.Written.{is_writable, outside, old_or_with, current_with, torn_by_writes, store_with, room_is}
 
 pub follows : (s : StoreView) (b : BlockOf) → ArePayload b.records → HasBlock (stored_by s.incarnation b).head (records_spelling b.records) → b.first ≡ length s.log.records + 1 → block_sectors b.records ≤ free_sectors s.log → Follows s (stored_by s.incarnation b)
 follows s b payload has first room = record { fits = payload; head = has; first = first; incarnation = refl; room = room_is s.log (stored_by s.incarnation b) (payload, has) room }

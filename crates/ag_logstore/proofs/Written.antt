@@ -1,24 +1,23 @@
 -- What a write of a block makes of the log of an image.
-use Rattle.std.proofs.Common.{◌≡◌, ◌⊎◌, ℕ, ◌+◌, ◌-◌, ◌^◌, ◌<◌, ◌≤◌, List, [], ◌∷◌, ◌++◌, length, Bool, IsTrue, refl, sym, ap, ◌∙◌, subst, arith, inl, inr}
+use Rattle.std.proofs.Common.{◌≡◌, ◌⊎◌, ℕ, ◌+◌, ◌-◌, ◌<◌, ◌≤◌, List, [], ◌∷◌, ◌++◌, length, sym, ap, ◌∙◌, subst, arith, inl, inr}
 use Rattle.std.proofs.lemmas.Bool.{cases_lt}
 use Rattle.std.proofs.lemmas.List.Sums.{fold-append}
 use Rattle.ag_model.specs.declared.record.Record.{Record}
 use Rattle.ag_model.specs.declared.record.Log.{Log}
 use Rattle.ag_model.specs.Blocks.{with_block}
-use Rattle.ag_model.specs.Sizes.{block_sectors, log_sectors, free_sectors}
+use Rattle.ag_model.specs.Sizes.{block_sectors, free_sectors}
 use Rattle.ag_record.proofs.Many.{length-records}
-use Rattle.ag_record.specs.Spelling.{records_spelling, ArePayload}
+use Rattle.ag_record.specs.Spelling.{ArePayload}
 use Rattle.ag_logblock.specs.declared.Head.{Head}
-use Rattle.ag_logblock.specs.Block.{HasBlock}
 use Rattle.ag_logblock.specs.Fitting.{header_of}
-use Rattle.ag_outside.specs.Disks.{Content, Image, or_zeros, writes, put_all, WroteSo, Only, IsImage}
+use Rattle.ag_outside.specs.Disks.{Image, or_zeros, writes, put_all}
 use Rattle.ag_outside.specs.Shown.{was_or_wrote}
-use Rattle.ag_logstore.specs.Stored.{log_start, log_end, IsLogSector, Stored, sectors_of, StandAt, IsStored, incarnation_at, Place, first_place, after_block, place_after, IsNext, AreStored, no_log, log_of_blocks}
+use Rattle.ag_logstore.specs.Stored.{log_end, IsLogSector, Stored, sectors_of, StandAt, incarnation_at, first_place, after_block, place_after, IsNext, AreStored, no_log, log_of_blocks}
 use Rattle.ag_logstore.specs.LogOf.{IsLogOf}
 use Rattle.ag_logstore.specs.Stores.{StoreView, sector_after, IsCurrent, IsTorn, Follows}
 use Rattle.ag_logstore.proofs.LogEnds.{sectors_push}
-use Rattle.ag_logstore.proofs.Standing.{IsWritable, alike, count_of_block, some_sectors, writable, says, block_says, incarnation_is, stand_there, stored_there, wrote_within, wrote_says, put_stands, all_or_one}
-use Rattle.ag_logstore.proofs.Chains.{one_more, none_longer, log_from, none_follows, places_rise, least_within, Ends, ends_of, ends_after, stored_on, next_on}
+use Rattle.ag_logstore.proofs.Standing.{IsWritable, alike, count_of_block, some_sectors, writable, block_says, incarnation_is, wrote_within, wrote_says, all_or_one}
+use Rattle.ag_logstore.proofs.Chains.{one_more, log_from, none_follows, least_within, ends_of, stored_on, next_on}
 
 pub is_writable : (s : StoreView) (b : Stored) → Follows s b → IsWritable b
 is_writable s b f = (f.fits, f.head)

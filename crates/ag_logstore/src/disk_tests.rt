@@ -19,14 +19,6 @@ use std::alloc::Global;
 use std::process::Abort;
 use std::test::Fail;
 
-/// A value of 64 bytes, with which a Put takes 79.
-fn long_value() -> Value {
-    Value {
-        len: 64,
-        bytes: [7; 64],
-    }
-}
-
 /// So many Puts of 79 bytes.
 fn puts(alloc: Global, count: u64) -> Result<RecordList, NoMemory>
     requires least { 1 ≤ count }
@@ -35,11 +27,11 @@ fn puts(alloc: Global, count: u64) -> Result<RecordList, NoMemory>
 {
     let mut records = ListOf::new(alloc);
     for key in 0..count as u32 {
-        records.push(Record::Put {
-            txn: 1,
-            key,
-            value: long_value(),
-        })?;
+        let value = Value {
+            len: 64,
+            bytes: [7; 64],
+        };
+        records.push(Record::Put { txn: 1, key, value })?;
     }
     Ok(records)
 }

@@ -1,11 +1,11 @@
-use Rattle.std.proofs.Common.{◌≡◌, ◌⊎◌, ℕ, ◌-◌, List, ◌∷◌, [], length, IsTrue, inl, inr, refl, sym, ap, subst, ◌∙◌, arith, Err}
+use Rattle.std.proofs.Common.{◌≡◌, ◌⊎◌, ℕ, ◌-◌, List, length, sym, ap, subst, ◌∙◌, arith, Err}
 use Rattle.std.specs.Prelude.{Contains}
 use Rattle.ag_model.specs.declared.record.Record.{Record}
 use Rattle.ag_model.specs.declared.record.Log.{Log}
 use Rattle.ag_model.specs.Blocks.{with_block, cut_at}
 use Rattle.ag_record.specs.Spelling.{records_spelling}
 use Rattle.ag_logblock.specs.Block.{HasBlock}
-use Rattle.ag_outside.specs.Disks.{writes, put_all, Image}
+use Rattle.ag_outside.specs.Disks.{writes, put_all}
 use Rattle.ag_outside.specs.Moments.{LeavesOnly}
 use Rattle.ag_outside.specs.Calls.{TakesAll, FailsOnTheWay}
 use Rattle.ag_logstore.specs.Stored.{Stored, sectors_of}

@@ -1,4 +1,4 @@
-use Rattle.std.proofs.Common.{◌≡◌, ◌++◌, ℕ, List, ap, sym, ◌∙◌, subst}
+use Rattle.std.proofs.Common.{◌++◌, ℕ, List, ap, sym, ◌∙◌, subst}
 use Rattle.ag_record.specs.Spelling.{records_spelling}
 use Rattle.ag_logblock.specs.Block.{HasBlock}
 use Rattle.ag_logstore.proofs.appending.spell.Goals as goal

@@ -1,6 +1,6 @@
-use Rattle.std.proofs.Common.{◌≡◌, ◌+◌, ◌-◌, ◌++◌, [], length, refl, sym, ap, ◌∙◌, subst, arith, IsTrue, ◌≤◌, ◌<◌, List, ℕ}
+use Rattle.std.proofs.Common.{◌≡◌, ◌+◌, ◌-◌, ◌++◌, [], length, sym, ap, ◌∙◌, subst, arith, IsTrue, List, ℕ}
 use Rattle.ag_outside.specs.Disks.{Image}
-use Rattle.ag_logstore.specs.Stored.{Stored, AreSectorsOf, sectors_at, named_count}
+use Rattle.ag_logstore.specs.Stored.{sectors_at, named_count}
 use Rattle.ag_logstore.proofs.Standing.{some_sectors, writable}
 use Rattle.ag_logstore.proofs.Runs.{then_reads, reads_then_fails, handed_on}
 use Rattle.ag_logstore.proofs.Found.{read_count, is_stored, is_found, in_log, told, told_if}

@@ -1,4 +1,4 @@
-use Rattle.std.proofs.Common.{◌≡◌, refl, ap, ◌∙◌, Err}
+use Rattle.std.proofs.Common.{ap, ◌∙◌, Err}
 use Rattle.ag_logstore.proofs.Runs.{one_read, one_fails, err_is}
 use Rattle.ag_logstore.proofs.loading.read_sector.Goals as goal
 

@@ -1,4 +1,4 @@
-use Rattle.std.proofs.Common.{◌≡◌, ◌+◌, ◌++◌, [], ◌∷◌, length, refl, sym, ap, ◌∙◌, subst, arith, length-append, rules, IsTrue}
+use Rattle.std.proofs.Common.{◌+◌, [], ◌∷◌, length, sym, ap, ◌∙◌, subst, arith, length-append, IsTrue}
 use Rattle.std.proofs.lemmas.List.{append-nil}
 use Rattle.ag_outside.specs.Disks.{Image, or_zeros}
 use Rattle.ag_logstore.proofs.Runs.{not_read, then_reads, reads_then_fails, handed_on}

@@ -1,5 +1,4 @@
-use Rattle.std.proofs.Common.{◌≡◌, ◌⊎◌, refl, ap, ◌∙◌, Err, inl, inr}
-use Rattle.ag_outside.specs.Calls.{Sync_call}
+use Rattle.std.proofs.Common.{ap, ◌∙◌, Err}
 use Rattle.ag_outside.specs.Disks.{IsImage}
 use Rattle.ag_outside.proofs.Running.{started, goes_on}
 use Rattle.ag_logstore.proofs.Runs.{err_is, handed_on, sync_then_reads, sync_then_fails, sync_fails, leaves_then, no_more}

@@ -1,4 +1,4 @@
-use Rattle.std.proofs.Common.{◌≡◌, refl, ap, ◌∙◌, Err, inl}
+use Rattle.std.proofs.Common.{ap, ◌∙◌, Err, inl}
 use Rattle.ag_outside.specs.Disks.{writes}
 use Rattle.ag_outside.proofs.Running.{started, goes_on}
 use Rattle.ag_logstore.proofs.Runs.{err_is, IsWrittenTo, still_written, took, sync_failed, write_failed}

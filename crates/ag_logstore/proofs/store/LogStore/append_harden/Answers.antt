@@ -1,4 +1,4 @@
-use Rattle.std.proofs.Common.{◌≡◌, ◌+◌, ◌/◌, ◌≤◌, ℕ, List, length, IsTrue, false, refl, sym, ap, subst, ◌∙◌, arith}
+use Rattle.std.proofs.Common.{◌≡◌, ◌+◌, ◌/◌, ◌≤◌, ℕ, List, length, false, sym, ap, subst, ◌∙◌, arith}
 use Rattle.ag_model.specs.declared.record.Record.{Record}
 use Rattle.ag_model.specs.Blocks.{with_block}
 use Rattle.ag_model.specs.Sizes.{records_size, block_sectors, free_sectors}
@@ -6,7 +6,6 @@ use Rattle.ag_outside.specs.Moments.{LeavesOnly}
 use Rattle.ag_logstore.specs.LogOf.{IsLogOf}
 use Rattle.ag_logstore.specs.Stores.{StoreView, IsReady, IsBeforeOrAfter, stored_by}
 use Rattle.ag_logstore.proofs.Fitting.{payload_small}
-use Rattle.ag_logstore.proofs.Standing.{few_sectors}
 use Rattle.ag_logstore.proofs.Storing.{follows, current_after, ready_after, in_call, no_call}
 use Rattle.ag_logstore.proofs.store.LogStore.append_harden.Goals as goal
 
