@@ -1,0 +1,2 @@
+//! Every log of every run is proper.
+#![tactic(auto)]
