@@ -6,3 +6,4 @@ pub mod TakesGoes
 pub mod Stops
 pub mod Lifts
 pub mod Events
+pub mod Runs
