@@ -7,3 +7,6 @@ pub mod Stops
 pub mod Lifts
 pub mod Events
 pub mod Runs
+pub mod Splits
+pub mod Rising
+pub mod Trimmed

@@ -1,3 +1,5 @@
 pub mod Growth
 pub mod Law
 pub mod LogsHave
+pub mod Places
+pub mod Trims
