@@ -10,3 +10,6 @@ pub mod Runs
 pub mod Splits
 pub mod Rising
 pub mod Trimmed
+pub mod Numbers
+pub mod Pages
+pub mod Ended

@@ -3,3 +3,4 @@ pub mod Law
 pub mod LogsHave
 pub mod Places
 pub mod Trims
+pub mod Ended
