@@ -13,3 +13,4 @@ pub mod Trimmed
 pub mod Numbers
 pub mod Pages
 pub mod Ended
+pub mod Both

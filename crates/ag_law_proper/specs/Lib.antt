@@ -4,3 +4,4 @@ pub mod LogsHave
 pub mod Places
 pub mod Trims
 pub mod Ended
+pub mod Records

@@ -10,14 +10,15 @@ ghost use Rattle.ag_model.specs.Proper.{RisesFrom, terms};
 ghost use Rattle.ag_rules.specs.Run.{run};
 ghost use Rattle.ag_rules.specs.Script.{IsScript};
 ghost use Rattle.ag_law_proper.specs.LogsHave.{LogsHave};
-ghost use Rattle.ag_law_proper.specs.Trims.{TrimsAreBelow};
+ghost use Rattle.ag_law_proper.specs.Records.{RecordsAreProper};
 
 /// The terms of the Term records of each log strictly rise.
 pub fn terms_rise()
     ensures rise { (c : Config) (es : List Event) → 0 < length c.modes → IsScript c es → LogsHave (λ (log : List Record). RisesFrom 0 (terms log)) (run c es) }
 {}
 
-/// The horizon of each Trim of each log is below the Trim's own LSN.
-pub fn trims_are_below()
-    ensures below { (c : Config) (es : List Event) → 0 < length c.modes → IsScript c es → LogsHave TrimsAreBelow (run c es) }
+/// Each record of each log is one of a proper log: each transaction ends at most once, has nothing after its end,
+/// and the end lists exactly the pages that it touched; a Trim's horizon is below the Trim's own LSN.
+pub fn records_are_proper()
+    ensures proper { (c : Config) (es : List Event) → 0 < length c.modes → IsScript c es → LogsHave (RecordsAreProper c.pages) (run c es) }
 {}
