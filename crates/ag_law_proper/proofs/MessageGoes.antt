@@ -46,7 +46,7 @@ send_goes logs told pages m h r full = checked_goes logs told pages r (checks_of
 
 pub join_goes : (logs : Logs) (told : Told) (pages : ℕ) (h : Here) (r : Replica) (full : Bool) → PartGoes logs told pages r (join_part h r full)
 unfolding join_part
-join_goes logs told pages h r full = checked_goes logs told pages r (checks_of_join h r full) _ (λ _. quiet_goes logs told pages r _ refl refl (lead_same pages r (joining r) refl refl) (SaysHello (next_ticket r) refl, tt))
+join_goes logs told pages h r full = checked_goes logs told pages r (checks_of_join h r full) _ (λ p. quiet_goes logs told pages r _ refl refl (lead_same pages r (joining r) refl refl) (SaysHello (next_ticket r) (not-false _ p.0) refl, tt))
 
 pub hello_goes : (logs : Logs) (told : Told) (pages n : ℕ) (h : Here) (r : Replica) (full : Bool) (term : ℕ) (ticket : Ticket) (its_end : ℕ) (starts : List TermStart) → told (record { term = term; body = Hello ticket its_end starts }) → PartGoes logs told pages r (hello_part h n r full term ticket its_end starts)
 unfolding hello_part

@@ -135,7 +135,7 @@ is_plain _ = true
 -- a message that a replica sends
 pub data Posts (told : Told) (r : Replica) (m : Message) : Type 0 where
   Plain : is_plain m.body ≡ true → Posts told r m
-  SaysHello : (ticket : Ticket) → m.body ≡ Hello ticket (end r) (term_starts (records r)) → Posts told r m
+  SaysHello : (ticket : Ticket) → r.up ≡ true → m.body ≡ Hello ticket (end r) (term_starts (records r)) → Posts told r m
   Answers : (ticket : Ticket) (its_end : ℕ) (starts : List TermStart) → told (record { term = r.term; body = Hello ticket its_end starts }) → r.leads ≡ true
       → m ≡ record { term = r.term; body = Resume ticket (fork_with r its_end starts) (end r) } → Posts told r m
   Sends : (to last : ℕ) → r.leads ≡ true → block_to_send r to ≡ Some last → m ≡ block_message r (peer r to).next last → Posts told r m
