@@ -1,3 +1,4 @@
 pub mod Ends
 pub mod Grown
 pub mod Forks
+pub mod Steps
