@@ -2,3 +2,5 @@ pub mod Ends
 pub mod Grown
 pub mod Forks
 pub mod Steps
+pub mod Sent
+pub mod Runs
