@@ -13,6 +13,7 @@ use Rattle.ag_model.specs.declared.event.Event.{Event}
 use Rattle.ag_model.specs.declared.message.Message.{Message}
 use Rattle.ag_model.specs.Rows.{contains}
 use Rattle.ag_model.specs.Proper.{RisesFrom}
+use Rattle.ag_model.specs.Sizes.{log_sectors}
 use Rattle.ag_rules.specs.Replica.{Replica, records}
 use Rattle.ag_rules.specs.Group.{Group, replica, link, opening, opening_replica, opening_replicas, nobody}
 use Rattle.ag_rules.specs.Next.{done}
@@ -35,14 +36,16 @@ use Rattle.ag_law_proper.proofs.Numbers.{apart}
 use Rattle.ag_law_blocks.specs.Blocked.{IsBlocked, AreBlocked}
 use Rattle.ag_law_blocks.specs.Marks.{Marks, Begins, Marked, MessageMarked}
 use Rattle.ag_law_blocks.proofs.Grown.{body_grows}
-use Rattle.ag_law_blocks.proofs.Steps.{Around, marks_after, between_of, traced_of, all_marked, all_begin}
+use Rattle.ag_law_blocks.proofs.Steps.{Around, marks_after, between_of, traced_of, all_marked, all_begin, whole_of, log_fits}
+use Rattle.ag_law_blocks.proofs.Sectors.{IsWhole, log_long}
 use Rattle.ag_law_blocks.proofs.Sent.{posted_marked, up_there}
 
--- what holds of a group: the marks of each log and each message, and that each log begins with the first term
+-- what holds of a group: the marks of each log and each message, the first term, and the room of each log
 record Ended (marks : Marks) (logs : Logs) (g : Group) : Type 0 where
   marked : (n : ℕ) → Marked marks (replica g n).kept.log
   begins : (n : ℕ) → n < length g.replicas → Begins (records (replica g n))
   told : AllTold (MessageMarked marks logs) g
+  sectors : (n : ℕ) → log_sectors (replica g n).kept.log ≤ 262144
 
 next_ended : (marks : Marks) (s : Setting) (logs : Logs) (g : Group) (e : Event) → Good s logs g → IsEvent s.config e → g.config.pages ≤ 2048 → Ended marks logs g → (k : Keeps s logs g (done g e).after) → (new : Marks) × Ended new k.grown (done g e).after
 next_ended marks s logs g e good is pages ended k =
@@ -56,6 +59,7 @@ next_ended marks s logs g e good is pages ended k =
         begins = all_begin marks s logs g after a ended.begins;
         told = λ x y. all_map (λ m. MessageMarked marks logs m ⊎ Posts (MessageMarked marks logs) (replica g x) m) (MessageMarked new k.grown)
             (λ m p. body_grows marks logs new k.grown m.term m.body (between_of marks s logs g after a) (one_of x m p)) (link after x y) (goes.links x y);
+        sectors = log_fits marks s logs g after a ended.sectors;
       },
     )
   where
@@ -63,36 +67,27 @@ next_ended marks s logs g e good is pages ended k =
     one_of x m (inl p) = p
     one_of x m (inr p) = posted_marked marks s logs x (replica g x) m good.are (good.each x) (λ up. ended.begins x (up_there g.replicas x up)) (ended.marked x) (traced_of s logs g x good) p
 
--- the last of the ends
-last_is : (low len : ℕ) (xs : List ℕ) → RisesFrom low xs → EndsIn low xs len → contains len (low ∷ xs) ≡ true → last_or (Some low) xs ≡ Some len
-last_is low len [] r e c = let same : len ≡ low = eqb-true len low (single (len == low) c) in ap Some (sym same)
-  where
-    single : (b : Bool) → (b || false) ≡ true → b ≡ true
-    single true q = q
-    single false q = q
-last_is low len (x ∷ xs) r e c = last_is x len xs r.1 e.1 (sym (ap (λ b. b || contains len (x ∷ xs)) (apart len low (λ q. let h : x ≤ len = ends_le x len xs e.1 in omega (arith, q, h, r.0)))) ∙ c)
-  where
-    ends_le : (start len : ℕ) (es : List ℕ) → EndsIn start es len → start ≤ len
-    ends_le start len [] p = p
-    ends_le start len (y ∷ es) p = let q : y ≤ len = ends_le y len es p.1 in omega (arith, p.0, q)
-
 some_last : (len : ℕ) (xs : List ℕ) → 0 < len → last_or (Some 0) xs ≡ Some len → last_or None xs ≡ Some len
 some_last len [] h e = let same : 0 ≡ len = cc in absurd (omega (arith, h, same))
 some_last len (x ∷ xs) h e = e
 
-blocked : (marks : Marks) (s : Setting) (logs : Logs) (g : Group) (n : ℕ) → Good s logs g → Marked marks (replica g n).kept.log → Begins (records (replica g n)) → IsBlocked (replica g n).kept.log
-blocked marks s logs g n good m b =
+blocked : (marks : Marks) (s : Setting) (logs : Logs) (g : Group) (n : ℕ) → Good s logs g → Marked marks (replica g n).kept.log → Begins (records (replica g n)) → log_sectors (replica g n).kept.log ≤ 262144 → IsBlocked (replica g n).kept.log
+blocked marks s logs g n good m b room =
     let l : Log = (replica g n).kept.log in
     let a : At s logs n (replica g n) = good.each n in
+    let whole : IsWhole 0 l.ends l.records = whole_of marks l a.kept.ends m in
+    let zero_plus : 0 + length l.records ≡ length l.records = omega arith in
     record {
       first = ap (take 1) b.1;
       ends = m.rises;
-      last = some_last (length l.records) l.ends (subst (λ (x : List Record). 0 < length x) (sym b.1) (omega arith)) (last_is 0 (length l.records) l.ends m.rises a.kept.ends m.whole);
+      last = some_last (length l.records) l.ends (subst (λ (x : List Record). 0 < length x) (sym b.1) (omega arith)) (whole.1 ∙ ap Some zero_plus);
       terms = m.terms;
+      sectors = room;
+      most = omega (arith, log_long l whole, room);
     }
 
 are_blocked : (marks : Marks) (s : Setting) (logs : Logs) (g : Group) → Good s logs g → Ended marks logs g → AreBlocked g
-are_blocked marks s logs g good ended n h = blocked marks s logs g n good (ended.marked n) (ended.begins n h)
+are_blocked marks s logs g good ended n h = blocked marks s logs g n good (ended.marked n) (ended.begins n h) (ended.sectors n)
 
 from_group : (marks : Marks) (s : Setting) (logs : Logs) (g : Group) (es : List Event) → Good s logs g → IsScript s.config es → s.config.pages ≤ 2048 → Ended marks logs g → AllByRecursion AreBlocked (groups (moments_from g es))
 from_group marks s logs g [] good is pages ended = tt
@@ -166,11 +161,24 @@ no_links P zero x d n p q = p
 no_links P (suc k) x d zero p q = q
 no_links P (suc k) x d (suc n) p q = no_links P k x d n p q
 
+others_fit : (c : Config) (ms : List Mode) (n : ℕ) → log_sectors (get_or (map (λ (m : Mode). opening_replica c false) ms) n nobody).kept.log ≤ 262144
+unfolding opening_replica
+others_fit c [] n = omega arith
+others_fit c (m ∷ ms) zero = omega arith
+others_fit c (m ∷ ms) (suc n) = others_fit c ms n
+
+replicas_fit : (c : Config) (ms : List Mode) (n : ℕ) → log_sectors (get_or (opening_replicas c ms) n nobody).kept.log ≤ 262144
+unfolding opening_replica
+replicas_fit c [] n = omega arith
+replicas_fit c (m ∷ ms) zero = omega arith
+replicas_fit c (m ∷ ms) (suc n) = others_fit c ms n
+
 first_ended : (c : Config) → Ended first_marks first_logs (opening c)
 unfolding opening
 first_ended c = record {
   marked = replicas_marked c c.modes;
   begins = replicas_begin c c.modes;
+  sectors = replicas_fit c c.modes;
   told = λ a b.
       no_links (λ (row : List (List Message)). AllByRecursion (MessageMarked first_marks first_logs) (get_or row b [])) (length c.modes) (replicate (length c.modes) []) [] a tt
       (no_links (λ (l : List Message). AllByRecursion (MessageMarked first_marks first_logs) l) (length c.modes) [] [] b tt tt);

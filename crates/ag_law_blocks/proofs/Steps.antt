@@ -1,8 +1,8 @@
 -- Each event keeps the marks of the log that it changes.
 use Rattle.std.specs.Prelude.{if◌then◌else◌}
 use Rattle.std.proofs.Common.{◌≡◌, ◌≢◌, ℕ, zero, suc, ◌+◌, ◌-◌, ◌<◌, ◌≤◌, List, [], ◌∷◌, ◌++◌, length, take, drop, map, Bool, true, false, inl, inr, refl, sym, ap, ◌∙◌, subst, arith, append_assoc, length-append}
-use Rattle.std.specs.Prelude.{◌==◌, ◌||◌, ◌⊎◌, nat_lt}
-use Rattle.std.specs.List.{AllByRecursion}
+use Rattle.std.specs.Prelude.{◌==◌, ◌||◌, ◌⊎◌, nat_lt, Some}
+use Rattle.std.specs.List.{AllByRecursion, last_or}
 use Rattle.std.proofs.lemmas.Bool.{false≢true, eqb-true, eqb-false, ltb-true, ltb-false}
 use Rattle.std.proofs.lemmas.List.{append-nil, take-append-drop}
 use Rattle.ag_model.specs.declared.record.Record.{Record}
@@ -16,6 +16,10 @@ use Rattle.ag_model.specs.Txns.{open_in}
 use Rattle.ag_rules.specs.Replica.{Replica, Kept, records, end, term_of_disk}
 use Rattle.ag_rules.specs.Group.{Group, replica}
 use Rattle.ag_rules.specs.Promotion.{promotion_records, abort_of, blocks_of}
+use Rattle.ag_model.specs.Proper.{RisesFrom}
+use Rattle.ag_model.specs.Sizes.{block_sectors, blocks_sectors, log_sectors}
+use Rattle.std.proofs.lemmas.List.Sums.{sum_by-append}
+use Rattle.ag_laws.specs.Ends.{EndsIn}
 use Rattle.ag_laws.specs.Prefix.{IsPrefixOf}
 use Rattle.ag_laws.specs.Logs.{Setting, Logs, AreLogs, IsTraced}
 use Rattle.ag_laws.specs.Disk.{IsOwn}
@@ -28,14 +32,15 @@ use Rattle.ag_laws.proofs.Prefix.{prefix_length}
 use Rattle.ag_laws.proofs.Parts.{part_after}
 use Rattle.ag_laws.proofs.Blocks.{flat}
 use Rattle.ag_laws.proofs.Grow.{last_quiet, last_begun, traced_prefix}
-use Rattle.ag_law_proper.specs.Growth.{LogGoes, Stands, Cuts, Hardens, Promotes, Comes, with_blocks}
+use Rattle.ag_law_proper.specs.Growth.{LogGoes, Stands, Cuts, Hardens, Promotes, Comes, with_blocks, LogFits}
 use Rattle.ag_law_proper.proofs.Lifts.{GroupGoes}
 use Rattle.ag_law_proper.proofs.TakesGoes.{records_of_blocks}
 use Rattle.ag_law_proper.proofs.Runs.{promoted_front}
 use Rattle.ag_law_proper.proofs.Rising.{aborts_termless}
 use Rattle.ag_law_proper.proofs.Numbers.{apart}
 use Rattle.ag_law_blocks.specs.Marks.{Marks, mark_at, Begins, Marked, MarkedBlock, MarkedFork, MessageMarked}
-use Rattle.ag_law_blocks.proofs.Ends.{Extends, extends_one, extends_all, blocks_some, promotion_small, contains_push, none_past}
+use Rattle.ag_law_blocks.proofs.Ends.{Extends, extends_one, extends_all, blocks_some, promotion_small, contains_push, none_past, or_false}
+use Rattle.ag_law_blocks.proofs.Sectors.{IsWhole, ends_le, block_more, blocks_cons, whole_more, cut_less}
 use Rattle.ag_law_blocks.proofs.Grown.{Between, grown_marks, mark_new, between, traced_within, same_mark, mark_longer, still_marked, cut_marked, grown_marked, part_within}
 
 -- records that a primary appends: their last term is this one, and a term starts at the first of them alone
@@ -234,3 +239,49 @@ all_begin marks s logs g after a old n h =
     subst (λ (i : ℕ). Begins (records (replica after i))) (sym same) (log_begins marks logs g.config.pages (replica g a.goes.writer) (replica after a.goes.writer).kept.log (old a.goes.writer (omega (arith, there, same))) a.goes.log))
     (λ _ f. subst (λ (k : Kept). Begins k.log.records) (sym (a.goes.others n (eqb-false n a.goes.writer f))) (old n there))
     refl
+
+-- the last of the ends
+last_is : (low len : ℕ) (xs : List ℕ) → RisesFrom low xs → EndsIn low xs len → contains len (low ∷ xs) ≡ true → last_or (Some low) xs ≡ Some len
+last_is low len [] r e c = let same : len ≡ low = eqb-true len low (sym (or_false (len == low)) ∙ c) in ap Some (sym same)
+last_is low len (x ∷ xs) r e c = last_is x len xs r.1 e.1 (sym (ap (λ b. b || contains len (x ∷ xs)) (apart len low (λ q. let h : x ≤ len = ends_le x len xs e.1 in omega (arith, q, h, r.0)))) ∙ c)
+
+-- a log in whole blocks
+pub whole_of : (marks : Marks) (l : Log) → EndsIn 0 l.ends (length l.records) → Marked marks l → IsWhole 0 l.ends l.records
+whole_of marks l ends m =
+    let same : length l.records ≡ 0 + length l.records = omega arith in
+    (subst (λ (n : ℕ). EndsIn 0 l.ends n) same ends, last_is 0 (length l.records) l.ends m.rises ends m.whole ∙ ap Some same)
+
+blocks_more : (l : Log) (bs : List (List Record)) → IsWhole 0 l.ends l.records → log_sectors l + blocks_sectors bs ≤ 262144 → log_sectors (with_blocks l bs) ≤ 262144
+blocks_more l [] w h = omega (arith, h)
+blocks_more l (b ∷ bs) w h =
+    let e : blocks_sectors (b ∷ bs) ≡ block_sectors b + blocks_sectors bs = blocks_cons b bs in
+    blocks_more (with_block l b) bs (whole_more l b w) (omega (arith, h, e, block_more l b w))
+
+-- the room of the log after the event
+pub log_fits : (marks : Marks) (s : Setting) (logs : Logs) (g after : Group) (a : Around marks s logs g after) → ((n : ℕ) → log_sectors (replica g n).kept.log ≤ 262144) → (n : ℕ) → log_sectors (replica after n).kept.log ≤ 262144
+log_fits marks s logs g after a old n =
+    by_bool (n == a.goes.writer) (λ v. (n == a.goes.writer) ≡ v → log_sectors (replica after n).kept.log ≤ 262144)
+    (λ _ y. let same : n ≡ a.goes.writer = eqb-true n a.goes.writer y in subst (λ (i : ℕ). log_sectors (replica after i).kept.log ≤ 262144) (sym same) (by_case a.goes.log))
+    (λ _ f. subst (λ (k : Kept). log_sectors k.log ≤ 262144) (sym (a.goes.others n (eqb-false n a.goes.writer f))) (old n))
+    refl
+  where
+    more : (b : List Record) → LogFits (replica g a.goes.writer).kept.log (b ∷ []) → log_sectors (with_block (replica g a.goes.writer).kept.log b) ≤ 262144
+    more b fits =
+        let l : Log = (replica g a.goes.writer).kept.log in
+        let low : log_sectors l ≤ 262144 = old a.goes.writer in
+        let room : blocks_sectors (b ∷ []) ≤ 262144 - log_sectors l = fits in
+        blocks_more l (b ∷ []) (whole_of marks l (a.good.each a.goes.writer).kept.ends (a.marked a.goes.writer)) (omega (arith, room, low))
+
+    by_case : LogGoes logs (MessageMarked marks logs) g.config.pages (replica g a.goes.writer) (replica after a.goes.writer).kept.log → log_sectors (replica after a.goes.writer).kept.log ≤ 262144
+    by_case (Stands e) = subst (λ (l : Log). log_sectors l ≤ 262144) (sym e) (old a.goes.writer)
+    by_case (Cuts term fork its_end ticket told answered e) =
+        let less : log_sectors (cut_at fork (replica g a.goes.writer).kept.log) ≤ log_sectors (replica g a.goes.writer).kept.log = cut_less (replica g a.goes.writer).kept.log fork (a.marked a.goes.writer).rises in
+        let low : log_sectors (replica g a.goes.writer).kept.log ≤ 262144 = old a.goes.writer in
+        subst (λ (l : Log). log_sectors l ≤ 262144) (sym e) (omega (arith, less, low))
+    by_case (Hardens leads some fits e) = subst (λ (l : Log). log_sectors l ≤ 262144) (sym e) (more (replica g a.goes.writer).leading.buffer fits)
+    by_case (Promotes term some rest low whole fits is e) =
+        let l : Log = (replica g a.goes.writer).kept.log in
+        let old_low : log_sectors l ≤ 262144 = old a.goes.writer in
+        let sum : blocks_sectors (some ++ rest) ≡ blocks_sectors some + blocks_sectors rest = sum_by-append block_sectors some rest in
+        subst (λ (x : Log). log_sectors x ≤ 262144) (sym e) (blocks_more l some (whole_of marks l (a.good.each a.goes.writer).kept.ends (a.marked a.goes.writer)) (let room : blocks_sectors (some ++ rest) ≤ 262144 - log_sectors l = fits in omega (arith, room, sum, old_low)))
+    by_case (Comes term b told follows same part first fits e) = subst (λ (l : Log). log_sectors l ≤ 262144) (sym e) (more b.records fits)
