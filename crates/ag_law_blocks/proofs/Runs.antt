@@ -83,6 +83,7 @@ blocked marks s logs g n good m b room =
       last = some_last (length l.records) l.ends (subst (λ (x : List Record). 0 < length x) (sym b.1) (omega arith)) (whole.1 ∙ ap Some zero_plus);
       terms = m.terms;
       sectors = room;
+      short = omega (arith, log_long l whole, room);
       most = omega (arith, log_long l whole, room);
     }
 

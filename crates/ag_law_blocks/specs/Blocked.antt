@@ -20,6 +20,8 @@ pub record IsBlocked (log : Log) : Type 0 where
   pub last : last_or None log.ends ≡ Some (length log.records)
   pub terms : TermsBeginBlocks log
   pub sectors : log_sectors log ≤ 262144
+  -- each record takes at least nine bytes of a block
+  pub short : length log.records ≤ 14097521
   pub most : length log.records ≤ 2 ^ 63
 
 -- the hardened log of each replica of the group is in whole blocks, up or down

@@ -168,7 +168,7 @@ of_primary : (R : List Record → Type 0) (t : ℕ) (gs : List Group) (o : Optio
 of_primary R t gs None p all = p
 of_primary R t gs (Some n) p all = longest_has R t n [] gs p all
 
-term_log_has : (R : List Record → Type 0) (ms : List Moment) (t : ℕ) → R [] → AllByRecursion (HardenedHave R) (groups ms) → R (term_log ms t)
+pub term_log_has : (R : List Record → Type 0) (ms : List Moment) (t : ℕ) → R [] → AllByRecursion (HardenedHave R) (groups ms) → R (term_log ms t)
 unfolding term_log
 term_log_has R ms t p all = of_primary R t (groups ms) (primary_of t (groups ms)) p all
 
