@@ -1,10 +1,10 @@
 -- The marks of the terms where logs have grown, and the logs and messages that have them.
 use Rattle.std.specs.Prelude.{if◌then◌else◌}
-use Rattle.std.proofs.Common.{◌≡◌, ◌≢◌, ℕ, zero, suc, ◌+◌, ◌-◌, ◌<◌, ◌≤◌, min, List, [], ◌∷◌, ◌++◌, length, take, drop, Bool, true, false, inl, inr, refl, sym, ap, ◌∙◌, subst, arith, append_assoc, length-append}
+use Rattle.std.proofs.Common.{◌≡◌, ℕ, ◌+◌, ◌-◌, ◌<◌, ◌≤◌, List, [], ◌∷◌, ◌++◌, length, take, drop, Bool, true, inl, inr, refl, sym, ap, ◌∙◌, arith, append_assoc, length-append}
 use Rattle.std.specs.Prelude.{◌==◌, ◌||◌, ◌⊎◌, nat_lt, nat_le}
-use Rattle.std.specs.List.{AllByRecursion, filter}
+use Rattle.std.specs.List.{filter}
 use Rattle.std.proofs.lemmas.Bool.{ltb-true, ltb-false, leb-true, leb-false}
-use Rattle.std.proofs.lemmas.List.{append-nil, take_all, take-append-drop, length-take-le}
+use Rattle.std.proofs.lemmas.List.{append-nil, take-append-drop, length-take-le}
 use Rattle.ag_model.specs.declared.record.Record.{Record}
 use Rattle.ag_model.specs.declared.record.Record.TheVariants.{Term}
 use Rattle.ag_model.specs.declared.record.Log.{Log}
@@ -24,8 +24,7 @@ use Rattle.ag_laws.proofs.Plans.{by_bool, if_has}
 use Rattle.ag_laws.proofs.Lists.{all_map}
 use Rattle.ag_laws.proofs.Grow.{traced_longer}
 use Rattle.ag_law_proper.proofs.Splits.{OldPlace, NewPlace, place_in}
-use Rattle.ag_law_blocks.specs.Blocked.{TermsBeginBlocks}
-use Rattle.ag_law_blocks.specs.Marks.{Marks, mark_at, Begins, Marked, MarkedBlock, MarkedHello, MarkedFork, BodyMarked}
+use Rattle.ag_law_blocks.specs.Marks.{Marks, mark_at, Marked, MarkedFork, BodyMarked}
 use Rattle.ag_law_blocks.proofs.Ends.{Extends, rises_cut, contains_cut}
 
 -- the marks after an event: past the old logs, those of the leaders' disks

@@ -1,9 +1,7 @@
 -- The hardened log of each replica of each group of a run is in whole blocks.
-use Rattle.std.proofs.Common.{◌≡◌, ℕ, zero, suc, ◌+◌, ◌<◌, ◌≤◌, List, [], ◌∷◌, ◌++◌, length, take, get_or, map, replicate, Bool, true, false, inl, inr, refl, sym, ap, ◌∙◌, subst, arith}
-use Rattle.std.specs.Prelude.{◌==◌, ◌||◌, ◌⊎◌, Some, None}
+use Rattle.std.proofs.Common.{◌≡◌, ℕ, zero, suc, ◌+◌, ◌<◌, ◌≤◌, List, [], ◌∷◌, ◌++◌, length, take, get_or, map, replicate, true, false, inl, inr, refl, sym, ap, ◌∙◌, subst, arith}
+use Rattle.std.specs.Prelude.{◌⊎◌, Some, None}
 use Rattle.std.specs.List.{AllByRecursion, last_or}
-use Rattle.std.proofs.lemmas.Bool.{false≢true, eqb-true}
-use Rattle.std.proofs.lemmas.List.{length-map}
 use Rattle.ag_model.specs.declared.config.Config.{Config}
 use Rattle.ag_model.specs.declared.config.Mode.{Mode}
 use Rattle.ag_model.specs.declared.record.Record.{Record}
@@ -12,15 +10,13 @@ use Rattle.ag_model.specs.declared.record.Log.{Log}
 use Rattle.ag_model.specs.declared.event.Event.{Event}
 use Rattle.ag_model.specs.declared.message.Message.{Message}
 use Rattle.ag_model.specs.Rows.{contains}
-use Rattle.ag_model.specs.Proper.{RisesFrom}
 use Rattle.ag_model.specs.Sizes.{log_sectors}
-use Rattle.ag_rules.specs.Replica.{Replica, records}
+use Rattle.ag_rules.specs.Replica.{records}
 use Rattle.ag_rules.specs.Group.{Group, replica, link, opening, opening_replica, opening_replicas, nobody}
 use Rattle.ag_rules.specs.Next.{done}
 use Rattle.ag_rules.specs.Run.{moments_from, run}
-use Rattle.ag_rules.specs.Script.{IsEvent, IsScript, IsConfig}
+use Rattle.ag_rules.specs.Script.{IsEvent, IsScript}
 use Rattle.ag_rules.specs.TermLog.{groups}
-use Rattle.ag_laws.specs.Ends.{EndsIn}
 use Rattle.ag_laws.specs.Logs.{Setting, Logs}
 use Rattle.ag_laws.specs.At.{At}
 use Rattle.ag_laws.specs.Good.{Good}
@@ -32,7 +28,6 @@ use Rattle.ag_laws.proofs.Opening.{opening_good}
 use Rattle.ag_law_proper.specs.Growth.{Posts}
 use Rattle.ag_law_proper.proofs.Lifts.{AllTold, GroupGoes}
 use Rattle.ag_law_proper.proofs.Events.{next_goes}
-use Rattle.ag_law_proper.proofs.Numbers.{apart}
 use Rattle.ag_law_blocks.specs.Blocked.{IsBlocked, AreBlocked}
 use Rattle.ag_law_blocks.specs.Marks.{Marks, Begins, Marked, MessageMarked}
 use Rattle.ag_law_blocks.proofs.Grown.{body_grows}

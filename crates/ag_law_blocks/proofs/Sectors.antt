@@ -1,10 +1,9 @@
 -- The sectors that a log takes, where it goes on by blocks or is cut, and how many records they have.
-use Rattle.std.specs.Prelude.{if◌then◌else◌}
-use Rattle.std.proofs.Common.{◌≡◌, ℕ, zero, suc, ◌+◌, ◌-◌, ◌*◌, ◌/◌, ◌<◌, ◌≤◌, List, [], ◌∷◌, ◌++◌, length, take, drop, Bool, true, false, refl, sym, ap, ◌∙◌, subst, arith, append_assoc, length-append}
+use Rattle.std.proofs.Common.{◌≡◌, ℕ, zero, suc, ◌+◌, ◌-◌, ◌*◌, ◌<◌, ◌≤◌, List, [], ◌∷◌, ◌++◌, length, take, drop, refl, sym, ap, ◌∙◌, subst, arith, length-append}
 use Rattle.std.specs.Prelude.{Some, nat_le}
-use Rattle.std.specs.List.{filter, sum_by, last_or}
+use Rattle.std.specs.List.{filter, last_or}
 use Rattle.std.proofs.lemmas.Bool.{leb-true, leb-false}
-use Rattle.std.proofs.lemmas.List.{append-nil, take-append-le, take-append-drop, take_all, length-take-le, length-drop, drop-append-le}
+use Rattle.std.proofs.lemmas.List.{take-append-le, take_all, length-take-le, length-drop, drop-append-le}
 use Rattle.std.proofs.lemmas.List.Sums.{sum_by-append}
 use Rattle.ag_model.specs.declared.record.Record.{Record}
 use Rattle.ag_model.specs.declared.record.Record.TheVariants.{Put, Del, Commit, Abort, Trim, Term}
@@ -13,7 +12,7 @@ use Rattle.ag_model.specs.Blocks.{with_block, cut_at}
 use Rattle.ag_model.specs.Sizes.{record_size, records_size, block_sectors, blocks_sectors, sectors_to, log_sectors}
 use Rattle.ag_model.specs.Proper.{RisesFrom}
 use Rattle.ag_laws.specs.Ends.{EndsIn}
-use Rattle.ag_laws.proofs.Plans.{by_bool, if_has}
+use Rattle.ag_laws.proofs.Plans.{if_has}
 
 -- the last end is the end of these records, which start after `start`
 abbrev pub IsWhole : ℕ → List ℕ → List Record → Type 0

@@ -1,40 +1,36 @@
 -- What each message that is sent tells of block ends.
 use Rattle.std.specs.Prelude.{if◌then◌else◌}
-use Rattle.std.proofs.Common.{◌≡◌, ◌≢◌, ℕ, zero, suc, ◌+◌, ◌-◌, ◌<◌, ◌≤◌, List, [], ◌∷◌, ◌++◌, length, take, drop, get_or, Bool, true, false, inl, inr, refl, sym, ap, ◌∙◌, subst, arith, append_assoc, length-append}
-use Rattle.std.specs.Prelude.{◌==◌, ◌||◌, ◌⊎◌, Option, Some, None, nat_lt}
-use Rattle.std.specs.List.{AllByRecursion}
-use Rattle.std.proofs.lemmas.Bool.{false≢true, eqb-true, eqb-false, ltb-true, ltb-false}
-use Rattle.std.proofs.lemmas.List.{take-append-drop, take_all, length-take-le}
+use Rattle.std.proofs.Common.{◌≡◌, ℕ, zero, suc, ◌+◌, ◌-◌, ◌<◌, ◌≤◌, List, [], ◌∷◌, ◌++◌, length, take, drop, get_or, true, false, inl, inr, refl, sym, ap, ◌∙◌, subst, arith, append_assoc, length-append}
+use Rattle.std.specs.Prelude.{◌==◌, ◌||◌, ◌⊎◌, Some}
+use Rattle.std.proofs.lemmas.Bool.{false≢true, eqb-true}
+use Rattle.std.proofs.lemmas.List.{take-append-drop, length-take-le}
 use Rattle.ag_model.specs.declared.record.Record.{Record}
 use Rattle.ag_model.specs.declared.record.Record.TheVariants.{Term}
 use Rattle.ag_model.specs.declared.config.TermStart.{TermStart}
-use Rattle.ag_model.specs.declared.config.Ticket.{Ticket}
 use Rattle.ag_model.specs.declared.message.Message.{Message}
-use Rattle.ag_model.specs.declared.message.Block.{Block}
 use Rattle.ag_model.specs.declared.message.Body.{Body}
 use Rattle.ag_model.specs.declared.message.Body.TheVariants.{Hello, Resume, Block as OfBlock, Ack, PageAsk, PageGive, PageNo}
 use Rattle.ag_model.specs.Blocks.{end_of_block, after_to}
 use Rattle.ag_model.specs.Rows.{contains}
 use Rattle.ag_model.specs.Starts.{term_starts, last_term, fork_of_starts}
 use Rattle.ag_model.specs.Proper.{RisesFrom}
-use Rattle.ag_rules.specs.Replica.{Replica, records, end, peer, term_of_disk}
-use Rattle.ag_rules.specs.Group.{Group, replica, nobody}
+use Rattle.ag_rules.specs.Replica.{Replica, records, end, peer}
+use Rattle.ag_rules.specs.Group.{nobody}
 use Rattle.ag_rules.specs.HelloMessage.{fork_with}
-use Rattle.ag_rules.specs.SendEvent.{block_message, block_to_send}
 use Rattle.ag_laws.specs.Prefix.{IsPrefixOf}
 use Rattle.ag_laws.specs.Logs.{Setting, Logs, AreLogs, IsTraced}
 use Rattle.ag_laws.specs.Fits.{IsPart}
 use Rattle.ag_laws.specs.At.{At}
-use Rattle.ag_laws.proofs.Plans.{by_bool, if_has}
+use Rattle.ag_laws.proofs.Plans.{by_bool}
 use Rattle.ag_laws.proofs.Lists.{all_map}
-use Rattle.ag_laws.proofs.Prefix.{prefix_length, take_prefix}
+use Rattle.ag_laws.proofs.Prefix.{prefix_length}
 use Rattle.ag_laws.proofs.Ends.{BlockAt, block_at}
 use Rattle.ag_laws.proofs.Parts.{part_between}
 use Rattle.ag_laws.proofs.Starts.{Agree, agree}
 use Rattle.ag_law_proper.specs.Growth.{Posts, Plain, SaysHello, Answers, Sends, is_plain}
 use Rattle.ag_law_proper.proofs.Numbers.{apart}
 use Rattle.ag_law_blocks.specs.Marks.{Marks, mark_at, Begins, Marked, MarkedBlock, MarkedHello, MarkedFork, BodyMarked, MessageMarked}
-use Rattle.ag_law_blocks.proofs.Ends.{eqb_same, or_false, or_true}
+use Rattle.ag_law_blocks.proofs.Ends.{or_false}
 use Rattle.ag_law_blocks.proofs.Grown.{mark_longer}
 use Rattle.ag_law_blocks.proofs.Forks.{fork_has, fork_some, starts_have}
 

@@ -1,29 +1,27 @@
 -- Each event keeps the marks of the log that it changes.
 use Rattle.std.specs.Prelude.{if◌then◌else◌}
-use Rattle.std.proofs.Common.{◌≡◌, ◌≢◌, ℕ, zero, suc, ◌+◌, ◌-◌, ◌<◌, ◌≤◌, List, [], ◌∷◌, ◌++◌, length, take, drop, map, Bool, true, false, inl, inr, refl, sym, ap, ◌∙◌, subst, arith, append_assoc, length-append}
+use Rattle.std.proofs.Common.{◌≡◌, ℕ, zero, suc, ◌+◌, ◌-◌, ◌<◌, ◌≤◌, List, [], ◌∷◌, ◌++◌, length, take, map, true, false, inl, inr, refl, sym, ap, ◌∙◌, subst, arith, length-append}
 use Rattle.std.specs.Prelude.{◌==◌, ◌||◌, ◌⊎◌, nat_lt, Some}
 use Rattle.std.specs.List.{AllByRecursion, last_or}
-use Rattle.std.proofs.lemmas.Bool.{false≢true, eqb-true, eqb-false, ltb-true, ltb-false}
-use Rattle.std.proofs.lemmas.List.{append-nil, take-append-drop}
+use Rattle.std.proofs.lemmas.Bool.{false≢true, eqb-true, eqb-false, ltb-false}
 use Rattle.ag_model.specs.declared.record.Record.{Record}
 use Rattle.ag_model.specs.declared.record.Record.TheVariants.{Term}
 use Rattle.ag_model.specs.declared.record.Log.{Log}
-use Rattle.ag_model.specs.declared.message.Block.{Block}
 use Rattle.ag_model.specs.Blocks.{with_block, cut_at}
 use Rattle.ag_model.specs.Rows.{contains}
 use Rattle.ag_model.specs.Starts.{last_term}
 use Rattle.ag_model.specs.Txns.{open_in}
 use Rattle.ag_rules.specs.Replica.{Replica, Kept, records, end, term_of_disk}
 use Rattle.ag_rules.specs.Group.{Group, replica}
-use Rattle.ag_rules.specs.Promotion.{promotion_records, abort_of, blocks_of}
+use Rattle.ag_rules.specs.Promotion.{promotion_records, abort_of}
 use Rattle.ag_model.specs.Proper.{RisesFrom}
 use Rattle.ag_model.specs.Sizes.{block_sectors, blocks_sectors, log_sectors}
 use Rattle.std.proofs.lemmas.List.Sums.{sum_by-append}
 use Rattle.ag_laws.specs.Ends.{EndsIn}
 use Rattle.ag_laws.specs.Prefix.{IsPrefixOf}
-use Rattle.ag_laws.specs.Logs.{Setting, Logs, AreLogs, IsTraced}
+use Rattle.ag_laws.specs.Logs.{Setting, Logs, IsTraced}
 use Rattle.ag_laws.specs.Disk.{IsOwn}
-use Rattle.ag_laws.specs.At.{At, NoTerm, is_term}
+use Rattle.ag_laws.specs.At.{At, NoTerm}
 use Rattle.ag_laws.specs.Good.{Good}
 use Rattle.ag_laws.specs.Keeps.{Keeps}
 use Rattle.ag_laws.proofs.Plans.{by_bool}
@@ -38,10 +36,10 @@ use Rattle.ag_law_proper.proofs.TakesGoes.{records_of_blocks}
 use Rattle.ag_law_proper.proofs.Runs.{promoted_front}
 use Rattle.ag_law_proper.proofs.Rising.{aborts_termless}
 use Rattle.ag_law_proper.proofs.Numbers.{apart}
-use Rattle.ag_law_blocks.specs.Marks.{Marks, mark_at, Begins, Marked, MarkedBlock, MarkedFork, MessageMarked}
+use Rattle.ag_law_blocks.specs.Marks.{Marks, mark_at, Begins, Marked, MessageMarked}
 use Rattle.ag_law_blocks.proofs.Ends.{Extends, extends_one, extends_all, blocks_some, promotion_small, contains_push, none_past, or_false}
 use Rattle.ag_law_blocks.proofs.Sectors.{IsWhole, ends_le, block_more, blocks_cons, whole_more, cut_less}
-use Rattle.ag_law_blocks.proofs.Grown.{Between, grown_marks, mark_new, between, traced_within, same_mark, mark_longer, still_marked, cut_marked, grown_marked, part_within}
+use Rattle.ag_law_blocks.proofs.Grown.{Between, grown_marks, mark_new, between, traced_within, same_mark, mark_longer, still_marked, cut_marked, grown_marked}
 
 -- records that a primary appends: their last term is this one, and a term starts at the first of them alone
 record Appended (term : ℕ) (base tail : List Record) : Type 0 where

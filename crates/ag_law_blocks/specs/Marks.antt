@@ -8,7 +8,7 @@ use Rattle.ag_model.specs.declared.config.TermStart.{TermStart}
 use Rattle.ag_model.specs.declared.message.Message.{Message}
 use Rattle.ag_model.specs.declared.message.Block.{Block}
 use Rattle.ag_model.specs.declared.message.Body.{Body}
-use Rattle.ag_model.specs.declared.message.Body.TheVariants.{Hello, Resume, Block as OfBlock, Ack, PageAsk, PageGive, PageNo}
+use Rattle.ag_model.specs.declared.message.Body.TheVariants.{Hello, Resume, Block as OfBlock}
 use Rattle.ag_model.specs.Rows.{contains}
 use Rattle.ag_model.specs.Starts.{term_starts, last_term}
 use Rattle.ag_model.specs.Proper.{RisesFrom}

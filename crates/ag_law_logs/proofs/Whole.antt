@@ -1,13 +1,13 @@
 -- Each log of each run is proper: the laws of its records, its room and its blocks, put together.
-use Rattle.std.proofs.Common.{◌≡◌, ℕ, zero, suc, ◌+◌, ◌*◌, ◌<◌, ◌≤◌, List, [], ◌∷◌, ◌++◌, length, take, get_or, Bool, true, false, inl, inr, refl, sym, ap, ◌∙◌, subst, arith, length-append}
-use Rattle.std.specs.Prelude.{◌⊎◌, ◌^◌, nat_lt}
+use Rattle.std.proofs.Common.{◌≡◌, ℕ, zero, suc, ◌<◌, ◌≤◌, List, [], ◌∷◌, ◌++◌, length, take, get_or, true, inl, inr, refl, ap, arith, length-append}
+use Rattle.std.specs.Prelude.{nat_lt}
 use Rattle.std.specs.List.{AllByRecursion}
 use Rattle.std.proofs.lemmas.Bool.{false≢true, ltb-true, ltb-false}
 use Rattle.ag_model.specs.declared.config.Config.{Config}
 use Rattle.ag_model.specs.declared.record.Record.{Record}
 use Rattle.ag_model.specs.declared.record.Record.TheVariants.{Term}
 use Rattle.ag_model.specs.declared.event.Event.{Event}
-use Rattle.ag_model.specs.Proper.{RisesFrom, terms, IsProper}
+use Rattle.ag_model.specs.Proper.{IsProper}
 use Rattle.ag_model.specs.Sizes.{records_size}
 use Rattle.ag_rules.specs.Replica.{Replica, records, full_log}
 use Rattle.ag_rules.specs.Group.{Group, replica, nobody}
@@ -16,17 +16,15 @@ use Rattle.ag_rules.specs.Script.{IsConfig, IsScript}
 use Rattle.ag_rules.specs.TermLog.{groups, term_log}
 use Rattle.ag_laws.proofs.Plans.{by_bool}
 use Rattle.ag_laws.proofs.Lists.{all_map}
-use Rattle.ag_law_proper.specs.LogsHave.{HardenedHave, BufferedHave, LogsHave}
+use Rattle.ag_law_proper.specs.LogsHave.{HardenedHave}
 use Rattle.ag_law_proper.specs.Places.{EachPlace}
-use Rattle.ag_law_proper.specs.Records.{RecordsAreProper}
-use Rattle.ag_law_proper.proofs.Runs.{Held, in_run, logs_have, term_log_has}
+use Rattle.ag_law_proper.proofs.Runs.{Held, in_run, term_log_has}
 use Rattle.ag_law_proper.proofs.Rising.{TermPlace, rise_law, rising_terms}
 use Rattle.ag_law_proper.proofs.Both.{proper_records}
-use Rattle.ag_law_room.specs.Room.{HasRoom}
 use Rattle.ag_law_room.proofs.Found.{FoundLog, FoundLead, found_law, has_room}
 use Rattle.ag_law_blocks.specs.Blocked.{IsBlocked, AreBlocked}
 use Rattle.ag_law_blocks.proofs.Runs.{blocks_in_run}
-use Rattle.ag_law_blocks.proofs.Sectors.{records_some, log_long}
+use Rattle.ag_law_blocks.proofs.Sectors.{records_some}
 use Rattle.ag_law_logs.specs.ProperRecords.{HasProperRecords, HardenedAreProper, BufferedAreProper, IsTermLog}
 use Rattle.ag_law_logs.proofs.Buffers.{Buffered, AnyLog, buffer_law}
 

@@ -1,8 +1,8 @@
 -- Each transaction ends once, nothing of it stands after its end, and its end lists the pages that it touched.
 use Rattle.std.specs.Prelude.{if◌then◌else◌}
-use Rattle.std.proofs.Common.{◌≡◌, ◌≢◌, ℕ, ◌+◌, ◌<◌, ◌≤◌, List, [], ◌∷◌, ◌++◌, length, map, Bool, true, false, refl, sym, ap, ◌∙◌, subst, arith, append_assoc}
+use Rattle.std.proofs.Common.{◌≡◌, ◌≢◌, ℕ, ◌+◌, ◌<◌, ◌≤◌, List, [], ◌∷◌, ◌++◌, map, Bool, true, false, refl, sym, ap, ◌∙◌, subst, arith, append_assoc}
 use Rattle.std.specs.Prelude.{◌==◌, ◌||◌, not, nat_lt}
-use Rattle.std.specs.List.{AllByRecursion, filter, list_any, flat_map}
+use Rattle.std.specs.List.{AllByRecursion, filter, list_any}
 use Rattle.std.proofs.lemmas.Bool.{eqb-true, eqb-false, or_parts, false≢true}
 use Rattle.std.proofs.lemmas.List.Folds.{list_any-append}
 use Rattle.std.proofs.lemmas.List.{append-nil}
@@ -12,18 +12,18 @@ use Rattle.ag_model.specs.declared.value.Change.{Change}
 use Rattle.ag_model.specs.declared.value.Change.TheVariants.{Put as PutChange, Del as DelChange}
 use Rattle.ag_model.specs.declared.event.Pair.{Pair}
 use Rattle.ag_model.specs.Starts.{last_term}
-use Rattle.ag_model.specs.Txns.{is_change_of, is_end_of, txn_of, pages_of, open_in, last_txn}
+use Rattle.ag_model.specs.Txns.{is_end_of, txn_of, pages_of, open_in, last_txn}
 use Rattle.ag_rules.specs.Replica.{OpenTxn}
 use Rattle.ag_rules.specs.PutEvent.{record_of}
 use Rattle.ag_rules.specs.CommitEvent.{end_record}
 use Rattle.ag_rules.specs.SetEvent.{records_of_set, pages_of_pairs}
 use Rattle.ag_rules.specs.Promotion.{promotion_records, abort_of}
 use Rattle.ag_laws.proofs.Plans.{by_bool, if_has}
-use Rattle.ag_laws.proofs.Lists.{all_map, all_append}
+use Rattle.ag_laws.proofs.Lists.{all_map}
 use Rattle.ag_law_proper.specs.Growth.{Lead, Steps, Same, Hardens, Opens, Changes, Closes, Ends, Sets, Trims, is_open_in, closed, with_whole, longer_by, opened}
 use Rattle.ag_law_proper.specs.Law.{Law}
 use Rattle.ag_law_proper.specs.Places.{EachPlace}
-use Rattle.ag_law_proper.specs.Ended.{is_of, EndPlace, IsEndBetween}
+use Rattle.ag_law_proper.specs.Ended.{is_of, EndPlace}
 use Rattle.ag_law_proper.proofs.Splits.{each_none, each_shorter, each_append, each_one}
 use Rattle.ag_law_proper.proofs.Numbers.{Sorted, open_sorted, open_unended, open_low, all_low, none_of, apart}
 use Rattle.ag_law_proper.proofs.Pages.{pages_quiet, pages_of_set}

@@ -1,8 +1,7 @@
 -- What each event makes of the logs of the group.
-use Rattle.std.specs.Prelude.{if◌then◌else◌}
-use Rattle.std.proofs.Common.{◌≡◌, ◌≢◌, ℕ, ◌+◌, ◌-◌, ◌<◌, List, [], ◌∷◌, ◌++◌, length, take, drop, zero, suc, ◌≤◌, inl, inr, true, false, Bool, refl, sym, ap, ◌∙◌, subst, arith, length-set}
+use Rattle.std.proofs.Common.{◌≡◌, ◌≢◌, ℕ, ◌+◌, ◌-◌, ◌<◌, List, [], ◌∷◌, ◌++◌, length, take, drop, zero, suc, ◌≤◌, inl, true, false, Bool, refl, sym, ap, ◌∙◌, subst, arith, length-set}
 use Rattle.std.specs.Prelude.{Option, Some, None, slice_get, ◌==◌, ◌&&◌, not}
-use Rattle.std.specs.List.{AllByRecursion, filter, range_with_len}
+use Rattle.std.specs.List.{filter, range_with_len}
 use Rattle.std.proofs.lemmas.Bool.{eqb-false, false≢true, ltb-false, and_parts}
 use Rattle.std.proofs.lemmas.List.{get_or-set_other}
 use Rattle.ag_model.specs.declared.event.Suffix.{Suffix}
@@ -17,14 +16,14 @@ use Rattle.ag_model.specs.declared.answer.Answer.{Answer}
 use Rattle.ag_model.specs.declared.answer.Answer.TheVariants.{Resumed, Synchronised, TimedOut, Lost}
 use Rattle.ag_model.specs.declared.answer.Refusal.TheVariants.{Nothing}
 use Rattle.ag_rules.specs.Replica.{Replica, records, stepped_down}
-use Rattle.ag_rules.specs.Group.{Group, replica, link, with_link, is_full, nobody, has, with_member, without_member}
+use Rattle.ag_rules.specs.Group.{Group, replica, link, is_full, nobody, has, with_member, without_member}
 use Rattle.ag_rules.specs.Plan.{Here, Part, Plan, Check, here, unless, refused, at_once, at_node, at_node_after, is_refusal}
 use Rattle.ag_rules.specs.Cut.{cut}
 use Rattle.ag_rules.specs.Checks.{is_down}
 use Rattle.ag_rules.specs.CutEvent.{told}
 use Rattle.ag_rules.specs.ResumeEvent.{plan_of_resume, checks_of_resume, with_resumed}
 use Rattle.ag_rules.specs.SyncEvent.{plan_of_sync, plan_of_timeout, checks_of_sync, checks_of_timeout, with_synced, without_synced, disconnected}
-use Rattle.ag_rules.specs.DeliverEvent.{plan_of_deliver, plan_of_message, delivered, arrives, taken, leaves, plan_of_lose, plan_of_loss}
+use Rattle.ag_rules.specs.DeliverEvent.{plan_of_deliver, plan_of_message, delivered, taken, leaves, plan_of_lose, plan_of_loss}
 use Rattle.ag_rules.specs.Failover.{failover, failover_checks, failover_records, group_moved, old_primary, takes_over, target, plan_of_planned, plan_of_force, plan_of_auto, plan_to_first, primary_serves, targets, is_target, has_mode_auto, moved, moved_by_force, checks_of_planned, checks_of_force}
 use Rattle.ag_rules.specs.Promotion.{promotion_records, blocks_of}
 use Rattle.ag_rules.specs.Next.{named, apart, plan_of, suffix_of, done, token}
@@ -33,7 +32,7 @@ use Rattle.ag_laws.specs.Logs.{Setting, Logs}
 use Rattle.ag_laws.specs.At.{At}
 use Rattle.ag_laws.specs.Fits.{MessageFits}
 use Rattle.ag_laws.specs.Good.{Good}
-use Rattle.ag_laws.proofs.Plans.{if_has, by_bool, unless_has, Passes}
+use Rattle.ag_laws.proofs.Plans.{if_has, unless_has, Passes}
 use Rattle.ag_laws.proofs.Lists.{at_set, all_append, all_take, all_drop, all_get}
 use Rattle.ag_laws.proofs.Events.{named_there}
 use Rattle.ag_law_proper.specs.Growth.{Told, LogFits, LeadGoes, Follows}
@@ -41,7 +40,7 @@ use Rattle.ag_law_proper.proofs.Parts.{PartGoes, lead_same, same_goes, at_once_g
 use Rattle.ag_law_proper.proofs.LeadingGoes.{begin_goes, get_goes, put_goes, end_goes, set_goes, trim_goes, ack_event_goes, raise_goes, apply_goes}
 use Rattle.ag_law_proper.proofs.RestGoes.{read_goes, view_goes, snap_goes, close_goes, redo_goes, flush_goes, finish_goes, report_goes, suspects_goes, page_goes, sectors_goes, status_goes, spoil_goes, unread_goes, ask_event_goes, cut_event_goes, mend_goes, crash_goes}
 use Rattle.ag_law_proper.proofs.MessageGoes.{send_goes, join_goes, arrives_goes}
-use Rattle.ag_law_proper.proofs.TakesGoes.{harden_goes, start_goes, takes_over_goes, may_lead, MayLead}
+use Rattle.ag_law_proper.proofs.TakesGoes.{harden_goes, start_goes, takes_over_goes, MayLead}
 use Rattle.ag_law_proper.proofs.Lifts.{AllTold, GroupGoes, Based, based_same, link_set, cut_goes, session_goes}
 
 -- an answer that changes nothing

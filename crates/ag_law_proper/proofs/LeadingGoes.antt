@@ -1,17 +1,15 @@
 -- What the events of transactions, and those of one stripe, make of a primary's log.
-use Rattle.std.proofs.Common.{◌≡◌, ℕ, ◌+◌, ◌-◌, ◌≤◌, List, [], ◌∷◌, ◌++◌, length, map, Bool, true, false, refl, sym, ap, ◌∙◌, subst, arith, append_assoc, length-append}
-use Rattle.std.specs.Prelude.{nat_lt}
+use Rattle.std.proofs.Common.{◌≡◌, ℕ, ◌+◌, ◌-◌, ◌≤◌, List, [], ◌∷◌, ◌++◌, length, map, Bool, true, refl, sym, ap, subst, arith, append_assoc, length-append}
 use Rattle.std.proofs.lemmas.Bool.{not-false, ltb-false}
 use Rattle.ag_model.specs.declared.record.Record.{Record}
 use Rattle.ag_model.specs.declared.record.Record.TheVariants.{Trim}
 use Rattle.ag_model.specs.declared.value.Change.{Change}
-use Rattle.ag_model.specs.declared.value.PageValue.{PageValue}
 use Rattle.ag_model.specs.declared.event.Pair.{Pair}
 use Rattle.ag_model.specs.Page.{value}
-use Rattle.ag_model.specs.Sizes.{change_size, free_bytes, records_size}
+use Rattle.ag_model.specs.Sizes.{change_size, free_bytes}
 use Rattle.ag_model.specs.Rows.{page_of}
 use Rattle.ag_model.specs.Txns.{pages_of}
-use Rattle.ag_rules.specs.Replica.{Replica, OpenTxn, Leading, end, records, full_log, full_end, effective, stripe, least}
+use Rattle.ag_rules.specs.Replica.{Replica, OpenTxn, end, records, full_log, full_end, effective, least}
 use Rattle.ag_rules.specs.Plan.{Here, Part}
 use Rattle.ag_rules.specs.Checks.{is_down, is_not_primary, buffer_is_full}
 use Rattle.ag_rules.specs.BeginEvent.{begin_part, checks_of_begin, begun}
@@ -28,7 +26,7 @@ use Rattle.ag_laws.specs.Logs.{Logs}
 use Rattle.ag_laws.proofs.Lists.{all_append}
 use Rattle.ag_laws.proofs.Steps.{IsSmall}
 use Rattle.ag_laws.proofs.Disks.{notes_are_small, installs_are_small}
-use Rattle.ag_law_proper.specs.Growth.{Lead, lead_of, Leads, Opens, Changes, Closes, Ends, Sets, Trims, BufferFits, PairsFit, free_on, Told, closed}
+use Rattle.ag_law_proper.specs.Growth.{lead_of, Leads, Opens, Changes, Closes, Ends, Sets, Trims, PairsFit, free_on, Told, closed}
 use Rattle.ag_law_proper.proofs.Parts.{PartGoes, lead_same, at_once_goes, same_goes, checked_goes, small_goes, access_goes}
 
 pub begin_goes : (logs : Logs) (told : Told) (pages : ℕ) (h : Here) (r : Replica) → PartGoes logs told pages r (begin_part h r)

@@ -4,20 +4,19 @@ use Rattle.std.specs.Prelude.{◌⊎◌, ◌==◌, Bool, true, false}
 use Rattle.std.proofs.lemmas.Bool.{eqb-true, eqb-false}
 use Rattle.std.specs.List.{AllByRecursion}
 use Rattle.std.proofs.lemmas.List.{get_or-set_other}
-use Rattle.ag_model.specs.declared.record.Log.{Log}
 use Rattle.ag_model.specs.declared.message.Message.{Message}
 use Rattle.ag_model.specs.declared.event.Suffix.{Suffix}
 use Rattle.ag_rules.specs.Replica.{Replica, Kept, fallen}
 use Rattle.ag_rules.specs.Group.{Group, replica, with_replica, link, with_link, nobody}
-use Rattle.ag_rules.specs.Plan.{Part, Posting, Batch, posted, at_node, all_written}
-use Rattle.ag_rules.specs.Cut.{cut, stopped_disk, failed_disk}
+use Rattle.ag_rules.specs.Plan.{Part, Posting, posted, at_node}
+use Rattle.ag_rules.specs.Cut.{cut}
 use Rattle.ag_rules.specs.Next.{at_session}
 use Rattle.ag_laws.specs.Logs.{Logs}
 use Rattle.ag_laws.proofs.Lists.{at_set, all_map, all_append}
 use Rattle.ag_laws.proofs.Groups.{replicas_posted}
 use Rattle.ag_laws.proofs.Cuts.{cut_has}
 use Rattle.ag_laws.proofs.Disks.{SameCore}
-use Rattle.ag_law_proper.specs.Growth.{Told, LogGoes, Stands, LeadGoes, Follows, Posts}
+use Rattle.ag_law_proper.specs.Growth.{Told, LogGoes, LeadGoes, Follows, Posts}
 use Rattle.ag_law_proper.proofs.Parts.{PartGoes, lead_same}
 use Rattle.ag_law_proper.proofs.Stops.{stop_has, fail_has}
 

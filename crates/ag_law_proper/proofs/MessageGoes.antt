@@ -1,24 +1,23 @@
 -- What a message that comes makes of the log of its replica, and the messages that tell of logs.
-use Rattle.std.proofs.Common.{◌≡◌, ◌≢◌, ℕ, zero, suc, ◌+◌, ◌≤◌, List, [], ◌∷◌, ◌++◌, length, take, Bool, true, false, refl, sym, ap, ◌∙◌, subst, arith}
+use Rattle.std.proofs.Common.{◌≡◌, ℕ, zero, suc, ◌+◌, List, [], ◌∷◌, ◌++◌, length, take, Bool, true, false, refl, ap, subst, arith}
 use Rattle.std.specs.Prelude.{◌==◌, ◌||◌, not, Option, Some, None}
 use Rattle.std.specs.List.{AllByRecursion}
 use Rattle.std.proofs.lemmas.Bool.{or_parts, not-false, ltb-false, leb-false}
-use Rattle.ag_model.specs.declared.message.Message.{Message}
 use Rattle.ag_model.specs.declared.message.Block.{Block}
 use Rattle.ag_model.specs.declared.message.Body.{Body}
 use Rattle.ag_model.specs.declared.message.Body.TheVariants.{Hello, Resume, Block as OfBlock, Ack, PageAsk, PageGive, PageNo}
 use Rattle.ag_model.specs.declared.config.Ticket.{Ticket}
 use Rattle.ag_model.specs.declared.config.TermStart.{TermStart}
 use Rattle.ag_model.specs.declared.answer.Answer.{Answer}
-use Rattle.ag_model.specs.declared.answer.Answer.TheVariants.{Hardened, Installed, NoPage}
+use Rattle.ag_model.specs.declared.answer.Answer.TheVariants.{Installed, NoPage}
 use Rattle.ag_model.specs.declared.answer.Refusal.TheVariants.{Nothing}
-use Rattle.ag_rules.specs.Replica.{Replica, Master, records, end, peer, with_peer, page, with_page, applied_of, takes_foreign}
-use Rattle.ag_rules.specs.Plan.{Here, Part, Posting, Write, Block_write, Master_write, written, all_written, each_synced, writing, at_once, sending}
+use Rattle.ag_rules.specs.Replica.{Replica, Master, end, peer, with_peer, page, with_page, applied_of, takes_foreign}
+use Rattle.ag_rules.specs.Plan.{Here, Posting, Write, Block_write, Master_write, written, all_written, each_synced, writing, at_once}
 use Rattle.ag_rules.specs.Messages.{ack_to}
 use Rattle.ag_rules.specs.SendEvent.{send_part, checks_of_send, sends, with_sent, block_to_send}
 use Rattle.ag_rules.specs.JoinEvent.{join_part, checks_of_join, next_ticket, joining}
-use Rattle.ag_rules.specs.HelloMessage.{hello_part, checks_of_hello, greets, fork_with, greeted}
-use Rattle.ag_rules.specs.ResumeMessage.{resume_message_part, checks_of_resume_message, resumes, waits_for, goes_on, stays, may_follow, follows_from, reverts_from, foreign_from}
+use Rattle.ag_rules.specs.HelloMessage.{hello_part, checks_of_hello, fork_with, greeted}
+use Rattle.ag_rules.specs.ResumeMessage.{resume_message_part, checks_of_resume_message, waits_for, goes_on, stays, may_follow, follows_from, reverts_from, foreign_from}
 use Rattle.ag_rules.specs.BlockMessage.{block_part, cases_of_block, acks}
 use Rattle.ag_rules.specs.AckMessage.{ack_message_part, checks_of_ack_message, known_peer}
 use Rattle.ag_rules.specs.PageAskMessage.{page_ask_part, cases_of_ask}
@@ -27,13 +26,13 @@ use Rattle.ag_rules.specs.Redo.{may_install, install_of, installed}
 use Rattle.ag_rules.specs.DeliverEvent.{arrives}
 use Rattle.ag_laws.specs.Logs.{Logs, Setting}
 use Rattle.ag_laws.specs.At.{At}
-use Rattle.ag_laws.specs.Fits.{IsPart, IsAnswered, BlockFits, ResumeFits, BodyFits}
+use Rattle.ag_laws.specs.Fits.{IsAnswered, BlockFits, ResumeFits, BodyFits}
 use Rattle.ag_laws.proofs.Plans.{if_has, case_has}
 use Rattle.ag_laws.proofs.Lists.{all_append}
 use Rattle.ag_laws.proofs.BlockKeeps.{same_term}
-use Rattle.ag_laws.proofs.Steps.{IsSmall, IsBatch}
+use Rattle.ag_laws.proofs.Steps.{IsSmall}
 use Rattle.ag_laws.proofs.Disks.{install_is_small}
-use Rattle.ag_law_proper.specs.Growth.{Told, LogGoes, Stands, Cuts, Comes, Follows, LeadGoes, Posts, Plain, SaysHello, Answers, Sends}
+use Rattle.ag_law_proper.specs.Growth.{Told, LogGoes, Stands, Cuts, Comes, Follows, Posts, Plain, SaysHello, Answers, Sends}
 use Rattle.ag_law_proper.proofs.Parts.{PartGoes, lead_same, quiet_goes, at_once_goes, same_goes, checked_goes, small_goes, remaster_goes}
 
 sends_go : (logs : Logs) (told : Told) (pages : ℕ) (r : Replica) (m : ℕ) (o : Option ℕ) → r.leads ≡ true → block_to_send r m ≡ o → PartGoes logs told pages r (sends r m o)

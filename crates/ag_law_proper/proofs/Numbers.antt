@@ -1,14 +1,14 @@
 -- The numbers of the transactions of a log: those that are open, and the greatest.
 use Rattle.std.specs.Prelude.{if◌then◌else◌}
-use Rattle.std.proofs.Common.{◌≡◌, ◌≢◌, ℕ, ◌<◌, ◌≤◌, max, List, [], ◌∷◌, ◌++◌, Bool, true, false, refl, sym, ap, ◌∙◌, arith}
+use Rattle.std.proofs.Common.{◌≡◌, ◌≢◌, ℕ, ◌<◌, ◌≤◌, max, List, [], ◌∷◌, Bool, true, false, refl, ap, ◌∙◌, arith}
 use Rattle.std.specs.Prelude.{◌==◌, ◌||◌, not, nat_lt}
 use Rattle.std.specs.List.{AllByRecursion, filter, fold, flat_map, list_any}
-use Rattle.std.proofs.lemmas.Bool.{eqb-true, eqb-false, ltb-true, ltb-false, not-false, false≢true}
+use Rattle.std.proofs.lemmas.Bool.{eqb-true, eqb-false, ltb-true, ltb-false, false≢true}
 use Rattle.ag_model.specs.declared.record.Record.{Record}
 use Rattle.ag_model.specs.declared.record.Record.TheVariants.{Put, Del, Commit, Abort, Trim, Term}
-use Rattle.ag_model.specs.Txns.{is_end_of, txn_of, last_txn, insert_rising, rising, open_in}
+use Rattle.ag_model.specs.Txns.{is_end_of, txn_of, last_txn, insert_rising, open_in}
 use Rattle.ag_laws.proofs.Plans.{by_bool, if_has}
-use Rattle.ag_laws.proofs.Lists.{all_map, all_append}
+use Rattle.ag_laws.proofs.Lists.{all_map}
 use Rattle.ag_law_proper.specs.Ended.{is_of}
 
 -- each number is below all that come after it

@@ -1,6 +1,5 @@
 -- What each event owes: how the log of its replica goes on, done whole and after each of its batches.
-use Rattle.std.specs.Prelude.{if◌then◌else◌}
-use Rattle.std.proofs.Common.{◌≡◌, ℕ, zero, suc, ◌≤◌, List, [], ◌∷◌, ◌++◌, length, take, Bool, true, false, refl, sym, ap, ◌∙◌, subst, arith}
+use Rattle.std.proofs.Common.{◌≡◌, ℕ, zero, suc, ◌≤◌, List, [], ◌∷◌, ◌++◌, length, take, refl, sym, ap, ◌∙◌, subst, arith}
 use Rattle.std.specs.Prelude.{nat_le}
 use Rattle.std.specs.List.{AllByRecursion, filter}
 use Rattle.std.proofs.lemmas.Bool.{leb-false}
@@ -9,8 +8,8 @@ use Rattle.ag_model.specs.declared.record.Record.{Record}
 use Rattle.ag_model.specs.declared.record.Log.{Log}
 use Rattle.ag_model.specs.declared.answer.Answer.{Answer}
 use Rattle.ag_model.specs.Blocks.{cut_at}
-use Rattle.ag_rules.specs.Replica.{Replica, Kept, Master, Leading, records, end, image}
-use Rattle.ag_rules.specs.Plan.{Part, Posting, Write, Batch, Master_write, Note_write, written, all_written, each_synced, Check, Case, unless, refused, at_once, writing}
+use Rattle.ag_rules.specs.Replica.{Replica, Kept, Master, end, image}
+use Rattle.ag_rules.specs.Plan.{Part, Posting, Write, Batch, Master_write, Note_write, written, all_written, each_synced, Check, unless, at_once, writing}
 use Rattle.ag_rules.specs.Access.{access, cases_of_access, pended, kind_of}
 use Rattle.ag_laws.specs.Logs.{Logs, Setting}
 use Rattle.ag_laws.specs.Ends.{EndsIn}
@@ -19,7 +18,7 @@ use Rattle.ag_laws.proofs.Plans.{by_bool, if_has, unless_has, case_has, Passes}
 use Rattle.ag_laws.proofs.Steps.{IsSmall, IsBatch}
 use Rattle.ag_laws.proofs.Disks.{SameCore, small_some, small_all, each_batches}
 use Rattle.ag_laws.proofs.Blocks.{small_then, small_then_all}
-use Rattle.ag_law_proper.specs.Growth.{Lead, lead_of, Steps, Same, LeadGoes, Follows, Leads, Takes, Told, LogGoes, Stands, Posts}
+use Rattle.ag_law_proper.specs.Growth.{lead_of, Steps, Same, LeadGoes, Follows, Leads, Takes, Told, LogGoes, Stands, Posts}
 
 -- what an event does at replica r
 pub record PartGoes (logs : Logs) (told : Told) (pages : ℕ) (r : Replica) (part : Part) : Type 0 where
@@ -85,8 +84,8 @@ ends_whole start len (e ∷ es) p =
     let q : (e ≤ len) × (filter (λ e. nat_le e len) es ≡ es) = ends_whole e len es p.1 in (
       omega (arith, p.0, q.0),
       if_has (λ (xs : List ℕ). xs ≡ e ∷ es) (nat_le e len) (e ∷ filter (λ e. nat_le e len) es) (filter (λ e. nat_le e len) es)
-      (λ _. ap (λ xs. e ∷ xs) q.1)
-      (λ f. absurd (omega (arith, leb-false e len f, q.0))),
+          (λ _. ap (λ xs. e ∷ xs) q.1)
+          (λ f. absurd (omega (arith, leb-false e len f, q.0))),
     )
 
 log_is : (l : Log) (a : List Record) (es : List ℕ) → a ≡ l.records → es ≡ l.ends → record { records = a; ends = es } ≡ l

@@ -1,5 +1,5 @@
 -- Events that leave each log: reads, looks, redo, writes of pages, damage, what the store knows, and those that only ask.
-use Rattle.std.proofs.Common.{◌≡◌, ℕ, zero, suc, List, [], ◌∷◌, ◌++◌, length, map, take, Bool, true, false, refl, sym, ap, ◌∙◌}
+use Rattle.std.proofs.Common.{◌≡◌, ℕ, zero, suc, List, [], ◌∷◌, ◌++◌, length, map, take, Bool, false, refl, sym}
 use Rattle.std.specs.Prelude.{◌==◌, not}
 use Rattle.std.specs.List.{AllByRecursion}
 use Rattle.ag_model.specs.declared.config.Token.{Token}
@@ -8,8 +8,8 @@ use Rattle.ag_model.specs.declared.answer.Answer.{Answer}
 use Rattle.ag_model.specs.declared.answer.Answer.TheVariants.{Mended}
 use Rattle.ag_model.specs.declared.answer.Refusal.TheVariants.{Nothing}
 use Rattle.ag_model.specs.Rows.{page_of, rows}
-use Rattle.ag_rules.specs.Replica.{Replica, Kept, Master, records, end, front, page_value, page, with_page, with_image, fallen, stepped_down, each_page, is_reverting}
-use Rattle.ag_rules.specs.Plan.{Here, Part, Batch, Write, Page_write, Master_write, written, batch_written, all_written, at_once, unless}
+use Rattle.ag_rules.specs.Replica.{Replica, Kept, Master, records, end, page_value, fallen, stepped_down, each_page}
+use Rattle.ag_rules.specs.Plan.{Here, Batch, Master_write, written, batch_written, all_written, at_once}
 use Rattle.ag_rules.specs.Checks.{is_down, reverts, is_not_secondary}
 use Rattle.ag_rules.specs.ReadEvent.{read_part, view_part, checks_of_read, checks_of_view, reads_at, is_too_old, row_answer, snapshots_of, no_snapshot}
 use Rattle.ag_rules.specs.SnapEvent.{snap_part, has_snapshot, with_snapshot, close_part, without_snapshot}

@@ -1,16 +1,15 @@
 -- The terms of a log rise.
-use Rattle.std.proofs.Common.{◌≡◌, ℕ, ◌+◌, ◌<◌, ◌≤◌, List, [], ◌∷◌, ◌++◌, length, map, Bool, true, false, refl, sym, ap, ◌∙◌, subst, arith, append_assoc, length-append}
-use Rattle.std.specs.Prelude.{if◌then◌else◌, nat_lt}
+use Rattle.std.proofs.Common.{◌≡◌, ℕ, ◌+◌, ◌<◌, List, [], ◌∷◌, ◌++◌, length, map, Bool, true, false, refl, sym, ap, ◌∙◌, subst, arith, append_assoc, length-append}
+use Rattle.std.specs.Prelude.{nat_lt}
 use Rattle.std.specs.List.{AllByRecursion, flat_map, enumerate_from}
 use Rattle.std.proofs.lemmas.Bool.{ltb-true, false≢true}
-use Rattle.std.proofs.lemmas.List.{append-nil}
 use Rattle.ag_model.specs.declared.record.Record.{Record}
 use Rattle.ag_model.specs.declared.record.Record.TheVariants.{Put, Del, Commit, Abort, Trim, Term}
 use Rattle.ag_model.specs.declared.config.TermStart.{TermStart}
 use Rattle.ag_model.specs.declared.value.Change.{Change}
 use Rattle.ag_model.specs.declared.value.Change.TheVariants.{Put as PutChange, Del as DelChange}
 use Rattle.ag_model.specs.declared.event.Pair.{Pair}
-use Rattle.ag_model.specs.Starts.{last_term, start_by, term_starts}
+use Rattle.ag_model.specs.Starts.{last_term, start_by}
 use Rattle.ag_model.specs.Proper.{RisesFrom, terms}
 use Rattle.ag_model.specs.Txns.{open_in}
 use Rattle.ag_rules.specs.PutEvent.{record_of}
@@ -109,7 +108,7 @@ rising_terms log all = from [] log refl
     from front (Term t ∷ rest) e = (
       all front (Term t) rest e t refl,
       subst (λ (n : ℕ). RisesFrom t (terms_from (n + 1) rest)) (length-append front (Term t ∷ []))
-      (subst (λ (u : ℕ). RisesFrom u (terms_from (length (front ++ Term t ∷ []) + 1) rest)) (last_begun front [] t tt) (from (front ++ Term t ∷ []) rest (next front (Term t) rest e))),
+          (subst (λ (u : ℕ). RisesFrom u (terms_from (length (front ++ Term t ∷ []) + 1) rest)) (last_begun front [] t tt) (from (front ++ Term t ∷ []) rest (next front (Term t) rest e))),
     )
     from front (Put t k v ∷ rest) e = quiet front (Put t k v) rest (refl, tt) (from (front ++ Put t k v ∷ []) rest (next front (Put t k v) rest e))
     from front (Del t k ∷ rest) e = quiet front (Del t k) rest (refl, tt) (from (front ++ Del t k ∷ []) rest (next front (Del t k) rest e))

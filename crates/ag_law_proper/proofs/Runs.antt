@@ -1,10 +1,9 @@
 -- From laws of logs to runs: what each event keeps holds of each log of each run.
-use Rattle.std.specs.Prelude.{if◌then◌else◌}
-use Rattle.std.proofs.Common.{◌≡◌, ◌≢◌, ℕ, zero, suc, ◌<◌, ◌≤◌, List, [], ◌∷◌, ◌++◌, length, take, drop, get_or, map, true, false, refl, sym, ap, ◌∙◌, subst, arith, append_assoc}
+use Rattle.std.proofs.Common.{◌≡◌, ℕ, zero, suc, ◌<◌, List, [], ◌∷◌, ◌++◌, length, take, drop, get_or, map, true, false, refl, sym, ap, ◌∙◌, subst, append_assoc}
 use Rattle.std.specs.Prelude.{Option, Some, None, ◌==◌, nat_lt}
-use Rattle.std.specs.List.{AllByRecursion, filter, fold, flat_map}
+use Rattle.std.specs.List.{AllByRecursion, filter, fold}
 use Rattle.std.proofs.lemmas.Bool.{false≢true, eqb-true, eqb-false}
-use Rattle.std.proofs.lemmas.List.{append-nil, take-append-drop}
+use Rattle.std.proofs.lemmas.List.{take-append-drop}
 use Rattle.ag_model.specs.declared.config.Config.{Config}
 use Rattle.ag_model.specs.declared.config.Mode.{Mode}
 use Rattle.ag_model.specs.declared.record.Record.{Record}
@@ -12,14 +11,13 @@ use Rattle.ag_model.specs.declared.record.Record.TheVariants.{Term}
 use Rattle.ag_model.specs.declared.record.Log.{Log}
 use Rattle.ag_model.specs.declared.event.Event.{Event}
 use Rattle.ag_model.specs.declared.message.Message.{Message}
-use Rattle.ag_model.specs.Starts.{last_term}
 use Rattle.ag_rules.specs.Replica.{Replica, records, full_log, term_of_disk}
 use Rattle.ag_rules.specs.Group.{Group, replica, link, opening, opening_replica, opening_replicas, nobody}
 use Rattle.ag_rules.specs.Promotion.{promotion_records, blocks_of}
 use Rattle.ag_rules.specs.Next.{done}
 use Rattle.ag_rules.specs.Run.{Moment, moments_from, run}
 use Rattle.ag_rules.specs.Script.{IsEvent, IsScript}
-use Rattle.ag_rules.specs.TermLog.{groups, primary_of, longer, longest, log_of_primary, term_log}
+use Rattle.ag_rules.specs.TermLog.{groups, primary_of, longer, log_of_primary, term_log}
 use Rattle.ag_laws.specs.Prefix.{IsPrefixOf}
 use Rattle.ag_laws.specs.Logs.{Setting, Logs}
 use Rattle.ag_laws.specs.At.{At}
@@ -27,13 +25,13 @@ use Rattle.ag_laws.specs.Good.{Good}
 use Rattle.ag_laws.specs.First.{first_setting, first_logs}
 use Rattle.ag_laws.specs.Keeps.{Keeps}
 use Rattle.ag_laws.proofs.Plans.{by_bool, if_has}
-use Rattle.ag_laws.proofs.Lists.{all_map, all_append}
+use Rattle.ag_laws.proofs.Lists.{all_map}
 use Rattle.ag_laws.proofs.Parts.{part_after}
 use Rattle.ag_laws.proofs.Blocks.{flat, blocks_whole}
 use Rattle.ag_laws.proofs.Events.{next_keeps}
 use Rattle.ag_laws.proofs.Opening.{opening_good}
 use Rattle.std.proofs.lemmas.List.Concat.{flat_map-append}
-use Rattle.ag_law_proper.specs.Growth.{Lead, lead_of, first_lead, promoted_lead, Told, LogGoes, Stands, Cuts, Hardens, Promotes, Comes, LeadGoes, Follows, Leads, Takes, with_blocks}
+use Rattle.ag_law_proper.specs.Growth.{Lead, lead_of, first_lead, promoted_lead, Told, LogGoes, Stands, Cuts, Hardens, Promotes, Comes, LeadGoes, Follows, Leads, Takes}
 use Rattle.ag_law_proper.specs.Law.{Law}
 use Rattle.ag_law_proper.specs.LogsHave.{HardenedHave, BufferedHave, LogsHave}
 use Rattle.ag_law_proper.proofs.TakesGoes.{records_of_blocks}

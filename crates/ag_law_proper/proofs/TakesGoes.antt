@@ -1,32 +1,29 @@
 -- What `harden` makes of a primary's log, and what a promotion makes of it: in a failover, and in a start.
-use Rattle.std.proofs.Common.{◌≡◌, ◌≢◌, ℕ, zero, suc, ◌+◌, ◌<◌, ◌≤◌, List, [], ◌∷◌, ◌++◌, length, map, take, Bool, inl, inr, true, false, refl, sym, ap, ◌∙◌, subst, arith, append_assoc}
+use Rattle.std.proofs.Common.{◌≡◌, ◌≢◌, ℕ, zero, suc, ◌<◌, ◌≤◌, List, [], ◌∷◌, ◌++◌, length, map, take, inl, inr, true, false, refl, sym, ap, ◌∙◌, subst, arith, append_assoc}
 use Rattle.std.specs.Prelude.{◌==◌, ◌⊎◌, nat_lt}
-use Rattle.std.specs.List.{AllByRecursion, fold, flat_map}
+use Rattle.std.specs.List.{AllByRecursion}
 use Rattle.std.proofs.lemmas.Bool.{false≢true, not-false, ltb-true, ltb-false, eqb-false}
 use Rattle.std.proofs.lemmas.List.{append-nil}
 use Rattle.ag_model.specs.declared.record.Record.{Record}
 use Rattle.ag_model.specs.declared.record.Log.{Log}
 use Rattle.ag_model.specs.Blocks.{with_block}
-use Rattle.ag_model.specs.Sizes.{blocks_sectors, free_sectors}
 use Rattle.ag_model.specs.Starts.{last_term}
-use Rattle.ag_model.specs.Txns.{last_txn}
-use Rattle.ag_rules.specs.Replica.{Replica, Kept, Master, records, end, term_of_disk, is_reverting, all_at}
-use Rattle.ag_rules.specs.Plan.{Here, Part, Write, Block_write, Master_write, written, all_written, each_synced}
-use Rattle.ag_rules.specs.Redo.{touched_by, notes_of, installs_of, installed, redone, touched_up_to}
+use Rattle.ag_rules.specs.Replica.{Replica, Kept, records, end, term_of_disk, is_reverting}
+use Rattle.ag_rules.specs.Plan.{Here, Write, Block_write, Master_write, written, all_written, each_synced}
+use Rattle.ag_rules.specs.Redo.{touched_by, notes_of, installs_of, installed, touched_up_to}
 use Rattle.ag_rules.specs.HardenEvent.{harden_part, checks_of_harden, hardens, hardened_one, harden_writes}
 use Rattle.ag_rules.specs.Promotion.{promotion_records, promotion_touches, promotion_writes, blocks_of, leads_now}
 use Rattle.ag_rules.specs.Failover.{takes_over, target}
 use Rattle.ag_rules.specs.StartEvent.{start_part, start_records, checks_of_start, starts_reverting, starts_second, starts_first, start_writes, started_master, woken, is_named}
 use Rattle.ag_rules.specs.Redo.{due_pages}
-use Rattle.ag_laws.specs.Logs.{Setting, Logs, AreLogs}
-use Rattle.ag_laws.specs.Ends.{EndsIn}
+use Rattle.ag_laws.specs.Logs.{Setting, Logs}
 use Rattle.ag_laws.specs.At.{At}
 use Rattle.ag_laws.proofs.Plans.{by_bool, if_has}
 use Rattle.ag_laws.proofs.Lists.{all_append}
 use Rattle.ag_laws.proofs.Blocks.{flat, blocks_whole, small_then, small_then_all}
 use Rattle.ag_laws.proofs.Disks.{SameCore, small_some, small_all, each_batches, notes_are_small, installs_are_small}
 use Rattle.ag_laws.proofs.Steps.{IsSmall}
-use Rattle.ag_law_proper.specs.Growth.{Lead, lead_of, promoted_lead, Told, LogGoes, Stands, Hardens as LogHardens, Promotes, LogFits, with_blocks, LeadGoes, Follows, Leads, Takes, Steps, Hardens}
+use Rattle.ag_law_proper.specs.Growth.{Lead, Told, LogGoes, Stands, Hardens as LogHardens, Promotes, LogFits, with_blocks, Follows, Leads, Takes, Hardens}
 use Rattle.ag_law_proper.proofs.Parts.{PartGoes, checked_goes, cut_whole}
 
 -- what a primary leads with, by its log

@@ -1,5 +1,5 @@
 -- The horizon of each Trim lies below its own LSN.
-use Rattle.std.proofs.Common.{◌≡◌, ℕ, ◌+◌, ◌<◌, ◌≤◌, List, [], ◌∷◌, ◌++◌, length, map, Bool, true, false, refl, sym, ap, ◌∙◌, subst, arith, length-append}
+use Rattle.std.proofs.Common.{◌≡◌, ℕ, ◌+◌, List, [], ◌∷◌, ◌++◌, length, map, Bool, true, false, refl, sym, subst, arith}
 use Rattle.std.specs.Prelude.{if◌then◌else◌, nat_lt}
 use Rattle.std.specs.List.{AllByRecursion}
 use Rattle.ag_model.specs.declared.record.Record.{Record}
@@ -8,12 +8,11 @@ use Rattle.ag_model.specs.declared.value.Change.{Change}
 use Rattle.ag_model.specs.declared.value.Change.TheVariants.{Put as PutChange, Del as DelChange}
 use Rattle.ag_model.specs.declared.event.Pair.{Pair}
 use Rattle.ag_model.specs.Starts.{last_term}
-use Rattle.ag_model.specs.Txns.{open_in, pages_of}
+use Rattle.ag_model.specs.Txns.{open_in}
 use Rattle.ag_rules.specs.PutEvent.{record_of}
 use Rattle.ag_rules.specs.CommitEvent.{end_record}
 use Rattle.ag_rules.specs.SetEvent.{records_of_set, pages_of_pairs}
 use Rattle.ag_rules.specs.Promotion.{promotion_records, abort_of}
-use Rattle.ag_laws.specs.Prefix.{IsPrefixOf}
 use Rattle.ag_laws.proofs.Plans.{if_has}
 use Rattle.ag_laws.proofs.Lists.{all_append}
 use Rattle.ag_law_proper.specs.Growth.{Lead, Steps, Same, Hardens, Opens, Changes, Closes, Ends, Sets, Trims}

@@ -1,6 +1,6 @@
 -- How the log of a replica goes on in one event, and what a primary's log and transactions become.
-use Rattle.std.specs.Prelude.{◌≡◌, ◌≢◌, ℕ, ◌+◌, ◌-◌, ◌<◌, ◌≤◌, List, [], ◌∷◌, ◌++◌, length, take, Bool, true, false, not, Some, ◌==◌, ◌⊎◌}
-use Rattle.std.specs.List.{AllByRecursion, filter, fold, list_any}
+use Rattle.std.specs.Prelude.{◌≡◌, ℕ, ◌+◌, ◌-◌, ◌<◌, ◌≤◌, List, [], ◌∷◌, ◌++◌, length, Bool, true, false, not, Some, ◌==◌, ◌⊎◌}
+use Rattle.std.specs.List.{filter, fold, list_any}
 use Rattle.ag_model.specs.declared.record.Record.{Record}
 use Rattle.ag_model.specs.declared.record.Record.TheVariants.{Term, Trim}
 use Rattle.ag_model.specs.declared.record.Log.{Log}

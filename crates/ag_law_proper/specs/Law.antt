@@ -1,5 +1,5 @@
 -- When each event keeps a property of logs.
-use Rattle.std.specs.Prelude.{◌≡◌, ℕ, ◌≤◌, List, []}
+use Rattle.std.specs.Prelude.{ℕ, ◌≤◌, List, []}
 use Rattle.ag_model.specs.declared.record.Record.{Record}
 use Rattle.ag_model.specs.Starts.{last_term}
 use Rattle.ag_laws.specs.Prefix.{IsPrefixOf}

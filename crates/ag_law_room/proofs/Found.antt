@@ -1,6 +1,6 @@
 -- Each Put and Del found room on its page, in each log of each run.
 use Rattle.std.specs.Prelude.{if◌then◌else◌}
-use Rattle.std.proofs.Common.{◌≡◌, ℕ, zero, suc, ◌+◌, ◌-◌, ◌≤◌, List, [], ◌∷◌, ◌++◌, length, map, take, Bool, true, false, refl, sym, ap, ◌∙◌, subst, arith, append_assoc}
+use Rattle.std.proofs.Common.{◌≡◌, ℕ, zero, suc, ◌+◌, ◌≤◌, List, [], ◌∷◌, ◌++◌, map, take, Bool, true, false, refl, sym, ap, ◌∙◌, subst, arith, append_assoc}
 use Rattle.std.specs.Prelude.{◌==◌, nat_lt}
 use Rattle.std.specs.List.{AllByRecursion, filter, sum_by}
 use Rattle.std.proofs.lemmas.Bool.{eqb-true, eqb-false}
@@ -12,15 +12,13 @@ use Rattle.ag_model.specs.declared.value.Change.{Change}
 use Rattle.ag_model.specs.declared.value.Change.TheVariants.{Put as PutChange, Del as DelChange}
 use Rattle.ag_model.specs.declared.event.Pair.{Pair}
 use Rattle.ag_model.specs.Rows.{page_of}
-use Rattle.ag_model.specs.Sizes.{change_size, versions_size}
-use Rattle.ag_model.specs.Page.{value}
+use Rattle.ag_model.specs.Sizes.{change_size}
 use Rattle.ag_model.specs.Starts.{last_term}
 use Rattle.ag_model.specs.Txns.{open_in}
 use Rattle.ag_rules.specs.PutEvent.{record_of}
 use Rattle.ag_rules.specs.CommitEvent.{end_record}
-use Rattle.ag_rules.specs.SetEvent.{records_of_set, pages_of_pairs, taken_on, pair_size}
+use Rattle.ag_rules.specs.SetEvent.{pages_of_pairs, taken_on, pair_size}
 use Rattle.ag_rules.specs.Promotion.{promotion_records, abort_of}
-use Rattle.ag_laws.specs.Prefix.{IsPrefixOf}
 use Rattle.ag_laws.proofs.Plans.{by_bool, if_has}
 use Rattle.ag_laws.proofs.Lists.{all_append}
 use Rattle.ag_law_proper.specs.Growth.{Lead, Steps, Same, Hardens, Opens, Changes, Closes, Ends, Sets, Trims, PairsFit, free_on}

@@ -1,8 +1,8 @@
 -- What one record more makes of the bytes that the versions of a page take.
 use Rattle.std.specs.Prelude.{if◌then◌else◌}
-use Rattle.std.proofs.Common.{◌≡◌, ℕ, ◌+◌, ◌-◌, ◌≤◌, List, [], ◌∷◌, ◌++◌, length, map, take, Bool, true, false, refl, sym, ap, ◌∙◌, subst, arith, length-append}
+use Rattle.std.proofs.Common.{◌≡◌, ℕ, ◌+◌, ◌-◌, ◌≤◌, List, [], ◌∷◌, ◌++◌, length, map, take, Bool, true, refl, ap, ◌∙◌, subst, arith, length-append}
 use Rattle.std.specs.Prelude.{◌==◌, not, Some, slice_get}
-use Rattle.std.specs.List.{AllByRecursion, filter, list_any, sum_by}
+use Rattle.std.specs.List.{filter}
 use Rattle.std.proofs.lemmas.Bool.{eqb-true}
 use Rattle.std.proofs.lemmas.List.{append-nil, take_all, take_at}
 use Rattle.std.proofs.lemmas.List.Sums.{sum_by-append}
@@ -15,7 +15,7 @@ use Rattle.ag_model.specs.declared.value.PageValue.{PageValue}
 use Rattle.ag_model.specs.Rows.{page_of, touches}
 use Rattle.ag_model.specs.Page.{value, horizons, horizon_by, all_versions, untrimmed, version_of, is_trimmed_at}
 use Rattle.ag_model.specs.Sizes.{change_size, versions_size, free_bytes}
-use Rattle.ag_model.specs.Txns.{is_end_of, txn_of}
+use Rattle.ag_model.specs.Txns.{txn_of}
 use Rattle.ag_version.specs.Edits.{stamped, without_txn, left_by_trim, new_version}
 use Rattle.ag_version.specs.Steps.{AreProper, IsAt, record_of}
 use Rattle.ag_version.proofs.Endings.{IsOpen}
