@@ -1,0 +1,16 @@
+pub mod Parts
+pub mod LeadingGoes
+pub mod RestGoes
+pub mod MessageGoes
+pub mod TakesGoes
+pub mod Stops
+pub mod Lifts
+pub mod Events
+pub mod Runs
+pub mod Splits
+pub mod Rising
+pub mod Trimmed
+pub mod Numbers
+pub mod Pages
+pub mod Ended
+pub mod Both
