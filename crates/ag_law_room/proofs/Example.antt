@@ -1,10 +1,10 @@
 -- A worked example: a primary opens a transaction, deletes key 5, and commits.
-use Rattle.std.proofs.Common.{◌≡◌, List, [], ◌∷◌, refl, arith}
+use Rattle.std.proofs.Common.{[], ◌∷◌, refl, arith}
 use Rattle.std.specs.Prelude.{true}
 use Rattle.ag_model.specs.declared.record.Record.TheVariants.{Del, Commit, Term}
 use Rattle.ag_model.specs.declared.value.Change.TheVariants.{Del as DelChange}
 use Rattle.ag_model.specs.Page.{value}
-use Rattle.ag_law_proper.specs.Growth.{Lead, first_lead, opened, closed, longer_by, Opens, Changes, Ends}
+use Rattle.ag_law_proper.specs.Growth.{first_lead, opened, closed, longer_by, Opens, Changes, Ends}
 use Rattle.ag_law_room.specs.Room.{HasRoom}
 use Rattle.ag_law_room.proofs.Found.{FoundLead, found_law, has_room}
 
