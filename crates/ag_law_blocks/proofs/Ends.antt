@@ -3,7 +3,7 @@ use Rattle.std.specs.Prelude.{if◌then◌else◌}
 use Rattle.std.proofs.Common.{◌≡◌, ℕ, zero, suc, ◌+◌, ◌<◌, ◌≤◌, List, [], ◌∷◌, ◌++◌, length, map, Bool, true, false, refl, sym, ap, ◌∙◌, subst, arith, length-append}
 use Rattle.std.specs.Prelude.{◌==◌, ◌||◌, ◌&&◌, nat_le, nat_lt}
 use Rattle.std.specs.List.{AllByRecursion, filter, fold, list_any, range_with_len}
-use Rattle.std.proofs.lemmas.Bool.{eqb-false, leb-false}
+use Rattle.std.proofs.lemmas.Bool.{leb-false}
 use Rattle.std.proofs.lemmas.List.Folds.{list_any-append}
 use Rattle.ag_model.specs.declared.record.Record.{Record}
 use Rattle.ag_model.specs.declared.record.Record.TheVariants.{Term}
@@ -20,7 +20,7 @@ use Rattle.ag_laws.proofs.Plans.{by_bool, if_has}
 use Rattle.ag_laws.proofs.Lists.{all_append}
 use Rattle.ag_laws.proofs.Ends.{ends_push}
 use Rattle.ag_law_proper.specs.Growth.{with_blocks}
-use Rattle.ag_law_proper.proofs.Numbers.{apart}
+use Rattle.ag_law_proper.proofs.Numbers.{apart, eqb_same}
 
 pub or_false : (b : Bool) → (b || false) ≡ b
 or_false true = refl
@@ -29,9 +29,6 @@ or_false false = refl
 pub or_true : (b : Bool) → (b || true) ≡ true
 or_true true = refl
 or_true false = refl
-
-pub eqb_same : (x : ℕ) → (x == x) ≡ true
-eqb_same x = by_bool (x == x) (λ v. (x == x) ≡ v → v ≡ true) (λ _ _. refl) (λ _ e. absurd (eqb-false x x e refl)) refl
 
 pub contains_push : (n e : ℕ) (xs : List ℕ) → contains n (0 ∷ xs ++ e ∷ []) ≡ (contains n (0 ∷ xs) || (n == e))
 contains_push n e xs = list_any-append (λ y. n == y) (0 ∷ xs) (e ∷ []) ∙ ap (λ b. contains n (0 ∷ xs) || b) (or_false (n == e))

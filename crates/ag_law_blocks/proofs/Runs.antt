@@ -101,9 +101,6 @@ from_group marks s logs g (e ∷ es) good is pages ended =
 abbrev first_marks : Marks
 first_marks u n = true
 
-first_log : Log
-first_log = record { records = Term 1 ∷ []; ends = 1 ∷ [] }
-
 one_marked : Marked first_marks (record { records = Term 1 ∷ []; ends = 1 ∷ [] })
 one_marked = record { same = same; rises = (omega arith, tt); whole = refl; terms = terms }
   where

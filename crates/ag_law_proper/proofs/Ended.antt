@@ -25,7 +25,7 @@ use Rattle.ag_law_proper.specs.Law.{Law}
 use Rattle.ag_law_proper.specs.Places.{EachPlace}
 use Rattle.ag_law_proper.specs.Ended.{is_of, EndPlace}
 use Rattle.ag_law_proper.proofs.Splits.{each_none, each_shorter, each_append, each_one}
-use Rattle.ag_law_proper.proofs.Numbers.{Sorted, open_sorted, open_unended, open_low, all_low, none_of, apart}
+use Rattle.ag_law_proper.proofs.Numbers.{Sorted, open_sorted, open_unended, open_low, all_low, none_of, apart, eqb_same}
 use Rattle.ag_law_proper.proofs.Pages.{pages_quiet, pages_of_set}
 
 -- what a primary knows of its transactions: the open ones have no end, and numbers above the last one are unused
@@ -58,9 +58,6 @@ or_true false b e = e
 ended_at : (v : ℕ) (front : List Record) (r : Record) (back log : List Record) → log ≡ front ++ r ∷ back → is_end_of v r ≡ true → list_any (is_end_of v) log ≡ true
 ended_at v front r back log e is =
     ap (list_any (is_end_of v)) e ∙ list_any-append (is_end_of v) front (r ∷ back) ∙ or_true (list_any (is_end_of v) front) (is_end_of v r || list_any (is_end_of v) back) (ap (λ b. b || list_any (is_end_of v) back) is)
-
-eqb_same : (x : ℕ) → (x == x) ≡ true
-eqb_same x = by_bool (x == x) (λ v. (x == x) ≡ v → v ≡ true) (λ _ _. refl) (λ _ e. absurd (eqb-false x x e refl)) refl
 
 more_after : (pages : ℕ) (log new front : List Record) (r : Record) (back : List Record) → LeaveEnded log new → log ≡ front ++ r ∷ back → EndPlace pages front r back → EndPlace pages front r (back ++ new)
 more_after pages log new front (Put t k v) back leave e p = tt

@@ -81,6 +81,9 @@ open_low log =
 pub apart : (x y : ℕ) → x ≢ y → (x == y) ≡ false
 apart x y p = by_bool (x == y) (λ v. (x == y) ≡ v → v ≡ false) (λ _ e. absurd (p (eqb-true x y e))) (λ _ _. refl) refl
 
+pub eqb_same : (x : ℕ) → (x == x) ≡ true
+eqb_same x = by_bool (x == x) (λ v. (x == x) ≡ v → v ≡ true) (λ _ _. refl) (λ _ e. absurd (eqb-false x x e refl)) refl
+
 pub none_of : (low v : ℕ) (log : List Record) → low < v → AllByRecursion (λ t. t ≤ low) (flat_map txn_of log) → list_any (is_of v) log ≡ false
 none_of low v [] h p = refl
 none_of low v (Put t k x ∷ log) h p = ap (λ b. (b || false) || list_any (is_of v) log) (apart v t (λ e. omega (arith, h, e, p.0))) ∙ none_of low v log h p.1

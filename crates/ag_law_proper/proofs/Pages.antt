@@ -12,7 +12,7 @@ use Rattle.ag_model.specs.Txns.{is_change_of, pages_of}
 use Rattle.ag_rules.specs.SetEvent.{pages_of_pairs}
 use Rattle.ag_laws.proofs.Plans.{by_bool}
 use Rattle.ag_law_proper.specs.Ended.{is_of}
-use Rattle.ag_law_proper.proofs.Numbers.{apart}
+use Rattle.ag_law_proper.proofs.Numbers.{apart, eqb_same}
 
 pub filter_same : (f g : ℕ → Bool) → ((x : ℕ) → f x ≡ g x) → (xs : List ℕ) → filter f xs ≡ filter g xs
 filter_same f g e [] = refl
@@ -47,9 +47,6 @@ none_of_log pages txn page (Commit t ps ∷ log) e = by_bool (txn == t) (λ b. (
 none_of_log pages txn page (Abort t ps ∷ log) e = by_bool (txn == t) (λ b. ((b || false) || list_any (is_of txn) log) ≡ false → list_any (λ r. is_change_of txn r && touches pages page r) log ≡ false) (λ _ q. absurd (cc)) (λ _ q. none_of_log pages txn page log q) e
 none_of_log pages txn page (Trim q h ∷ log) e = none_of_log pages txn page log e
 none_of_log pages txn page (Term t ∷ log) e = none_of_log pages txn page log e
-
-eqb_same : (x : ℕ) → (x == x) ≡ true
-eqb_same x = by_bool (x == x) (λ v. (x == x) ≡ v → v ≡ true) (λ _ _. refl) (λ _ e. absurd (eqb-false x x e refl)) refl
 
 eqb_turn : (x y : ℕ) → (x == y) ≡ (y == x)
 eqb_turn x y = by_bool (x == y) (λ v. (x == y) ≡ v → v ≡ (y == x)) (λ _ e. sym (ap (λ z. z == x) (sym (eqb-true x y e)) ∙ eqb_same x)) (λ _ e. sym (apart y x (λ q. eqb-false x y e (sym q)))) refl

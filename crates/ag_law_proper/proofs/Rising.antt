@@ -1,7 +1,7 @@
 -- The terms of a log rise.
 use Rattle.std.proofs.Common.{◌≡◌, ℕ, ◌+◌, ◌<◌, List, [], ◌∷◌, ◌++◌, length, map, Bool, true, false, refl, sym, ap, ◌∙◌, subst, arith, append_assoc, length-append}
 use Rattle.std.specs.Prelude.{nat_lt}
-use Rattle.std.specs.List.{AllByRecursion, flat_map, enumerate_from}
+use Rattle.std.specs.List.{flat_map, enumerate_from}
 use Rattle.std.proofs.lemmas.Bool.{ltb-true, false≢true}
 use Rattle.ag_model.specs.declared.record.Record.{Record}
 use Rattle.ag_model.specs.declared.record.Record.TheVariants.{Put, Del, Commit, Abort, Trim, Term}
@@ -23,15 +23,11 @@ use Rattle.ag_laws.proofs.Grow.{last_quiet, last_begun}
 use Rattle.ag_law_proper.specs.Growth.{Lead, Steps, Same, Hardens, Opens, Changes, Closes, Ends, Sets, Trims}
 use Rattle.ag_law_proper.specs.Law.{Law}
 use Rattle.ag_law_proper.specs.Places.{EachPlace}
-use Rattle.ag_law_proper.proofs.Splits.{each_none, each_shorter, each_append, each_one}
+use Rattle.ag_law_proper.proofs.Splits.{all_at, each_none, each_shorter, each_append, each_one}
 
 -- a record that starts a term starts a later one than those before
 abbrev pub TermPlace : List Record → Record → List Record → Type 0
 TermPlace front r back = (t : ℕ) → r ≡ Term t → last_term front < t
-
-all_at : {X : Type 0} (P : X → Type 0) (a : List X) (x : X) (b : List X) → AllByRecursion P (a ++ x ∷ b) → P x
-all_at P [] x b p = p.0
-all_at P (y ∷ a) x b p = all_at P a x b p.1
 
 -- records that start no term go on a log
 goes_termless : (log new : List Record) → NoTerm new → EachPlace TermPlace log → EachPlace TermPlace (log ++ new)

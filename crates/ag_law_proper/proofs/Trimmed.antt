@@ -19,7 +19,7 @@ use Rattle.ag_law_proper.specs.Growth.{Lead, Steps, Same, Hardens, Opens, Change
 use Rattle.ag_law_proper.specs.Law.{Law}
 use Rattle.ag_law_proper.specs.Places.{EachPlace}
 use Rattle.ag_law_proper.specs.Trims.{IsTrimBelow}
-use Rattle.ag_law_proper.proofs.Splits.{each_none, each_shorter, each_append, each_one}
+use Rattle.ag_law_proper.proofs.Splits.{all_at, each_none, each_shorter, each_append, each_one}
 
 -- a record in its place
 abbrev pub TrimPlace : List Record → Record → List Record → Type 0
@@ -37,10 +37,6 @@ no_trim lsn (Commit t ps) e = tt
 no_trim lsn (Abort t ps) e = tt
 no_trim lsn (Trim p h) e = absurd (cc)
 no_trim lsn (Term t) e = tt
-
-all_at : {X : Type 0} (P : X → Type 0) (a : List X) (x : X) (b : List X) → AllByRecursion P (a ++ x ∷ b) → P x
-all_at P [] x b p = p.0
-all_at P (y ∷ a) x b p = all_at P a x b p.1
 
 -- records that trim nothing go on a log
 pub goes_untrimmed : (log new : List Record) → AllByRecursion (λ r. is_no_trim r ≡ true) new → EachPlace TrimPlace log → EachPlace TrimPlace (log ++ new)

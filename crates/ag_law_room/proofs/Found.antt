@@ -24,7 +24,7 @@ use Rattle.ag_laws.proofs.Lists.{all_append}
 use Rattle.ag_law_proper.specs.Growth.{Lead, Steps, Same, Hardens, Opens, Changes, Closes, Ends, Sets, Trims, PairsFit, free_on}
 use Rattle.ag_law_proper.specs.Law.{Law}
 use Rattle.ag_law_proper.specs.Places.{EachPlace}
-use Rattle.ag_law_proper.proofs.Splits.{each_none, each_shorter, each_append, each_one}
+use Rattle.ag_law_proper.proofs.Splits.{all_at, each_none, each_shorter, each_append, each_one}
 use Rattle.ag_law_proper.proofs.Both.{ProperLog, ProperLead, proper_law, proper_records}
 use Rattle.ag_law_room.specs.Room.{HasRoom, PutPlace}
 use Rattle.ag_law_room.proofs.Sizes.{size_of, adds, free_is, value_size, size_step}
@@ -51,10 +51,6 @@ any_after pages front (Commit t ps) back more p = tt
 any_after pages front (Abort t ps) back more p = tt
 any_after pages front (Trim q h) back more p = tt
 any_after pages front (Term t) back more p = tt
-
-all_at : {X : Type 0} (P : X → Type 0) (a : List X) (x : X) (b : List X) → AllByRecursion P (a ++ x ∷ b) → P x
-all_at P [] x b p = p.0
-all_at P (y ∷ a) x b p = all_at P a x b p.1
 
 goes_unput : (pages : ℕ) (log new : List Record) → AllByRecursion (λ r. is_no_put r ≡ true) new → EachPlace (PutPlace pages) log → EachPlace (PutPlace pages) (log ++ new)
 goes_unput pages log new none all =
