@@ -57,6 +57,7 @@ fn reads_scripts(rt: HostRuntime) -> Result<(), Fail> {
             Ok(6),
         ),
         (b"apply B 0\nraise A 15\nredo A\nread A 0 0\n", Ok(4)),
+        (b"crash A\nstart A\nstatus B\n", Ok(3)),
         (b"\n# a\nharden A\nharden C\nharden C\n", bad(13)),
         (b"harden A", bad(10)),
         (b"harden A\n# a", bad(11)),
@@ -66,7 +67,7 @@ fn reads_scripts(rt: HostRuntime) -> Result<(), Fail> {
         // not built
         (b"harden @\n", bad(10)),
         (b"send A @\n", bad(10)),
-        (b"crash A\n", bad(10)),
+        (b"flush A\n", bad(10)),
         (b"begin A\n", bad(10)),
         (b"harden A fail 1\n", bad(10)),
         (b"set A 5 aa stop 1 0\n", bad(10)),
