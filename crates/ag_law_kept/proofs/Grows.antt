@@ -9,9 +9,9 @@ use Rattle.ag_model.specs.declared.answer.Answer.TheVariants.{Installed}
 use Rattle.ag_model.specs.declared.answer.Refusal.TheVariants.{Nothing}
 use Rattle.ag_model.specs.declared.message.Block.{Block}
 use Rattle.ag_model.specs.declared.message.Body.TheVariants.{Ack}
-use Rattle.ag_rules.specs.Replica.{Replica, Kept, Master, Peer, records, end, low, peer, no_peer, takes_foreign, is_reverting, applied_of, page, with_page}
+use Rattle.ag_rules.specs.Replica.{Replica, Kept, Master, Peer, records, end, low, peer, no_peer, takes_foreign, is_reverting, applied_of, page, with_page, is_bad, is_wanted}
 use Rattle.ag_rules.specs.Plan.{Here, Write, Batch, Block_write, Master_write, written, batch_written, all_written, each_synced, writing}
-use Rattle.ag_rules.specs.Checks.{is_down}
+use Rattle.ag_rules.specs.Checks.{is_down, of_other_term, link_is_full}
 use Rattle.ag_rules.specs.Messages.{ack_to}
 use Rattle.ag_rules.specs.Redo.{may_install, notes_of, installs_of, install_of, installed, touched_by, touched_up_to, due_pages}
 use Rattle.ag_rules.specs.HardenEvent.{harden_part, checks_of_harden, hardened_one, harden_writes}
@@ -22,12 +22,12 @@ use Rattle.ag_rules.specs.SendEvent.{send_part, checks_of_send, sends, with_sent
 use Rattle.ag_rules.specs.CrashEvent.{crash_part}
 use Rattle.ag_rules.specs.ResumeMessage.{waits_for}
 use Rattle.ag_rules.specs.BlockMessage.{block_part, cases_of_block, acks}
-use Rattle.ag_rules.specs.PageAskMessage.{page_ask_part, cases_of_ask}
-use Rattle.ag_rules.specs.PageGiveMessage.{page_give_part, checks_of_give, comes, installs, holds, with_come, is_last, initialising}
+use Rattle.ag_rules.specs.PageAskMessage.{page_ask_part}
+use Rattle.ag_rules.specs.PageGiveMessage.{page_give_part, comes, installs, holds, with_come, is_last, initialising}
 use Rattle.ag_rules.specs.DeliverEvent.{no_page_part}
 use Rattle.ag_laws.specs.Prefix.{IsPrefixOf}
 use Rattle.ag_laws.proofs.Prefix.{prefix_refl}
-use Rattle.ag_laws.proofs.Plans.{if_has, case_has}
+use Rattle.ag_laws.proofs.Plans.{if_has, case_has, question_has, arrival_has}
 use Rattle.ag_laws.proofs.Lists.{at_set, all_append}
 use Rattle.ag_laws.proofs.Disks.{SameCore, core_refl, core_trans, small_core, small_all, small_some, each_batches, notes_are_small, install_is_small, installs_are_small}
 use Rattle.ag_laws.proofs.Blocks.{small_then, small_then_all}
@@ -259,9 +259,12 @@ block_calm h n r full term b f =
 pub page_ask_calm : (h : Here) (n : ℕ) (r : Replica) (full : Bool) (term p lsn : ℕ) (primary : Bool) → Fit h.pages r → PartCalm h.pages r (page_ask_part h n r full term p lsn primary)
 unfolding page_ask_part
 page_ask_calm h n r full term p lsn primary f =
-    case_has (PartCalm h.pages r) (cases_of_ask h n r full term p lsn primary) _
-    ((λ _. same_calm h.pages r _ f), ((λ _. same_calm h.pages r _ f), ((λ _. quiet_calm h.pages r _ f refl (still h.pages r r f refl refl refl) (leads_still r r refl refl refl refl refl refl refl) (inl (tt, tt))), ((λ _. same_calm h.pages r _ f), ((λ _. same_calm h.pages r _ f), tt)))))
-    (λ _. quiet_calm h.pages r _ f refl (still h.pages r r f refl refl refl) (leads_still r r refl refl refl refl refl refl refl) (inl (tt, tt)))
+    checked_calm h.pages r (of_other_term r term ∷ []) _ f
+    (λ _. question_has (PartCalm h.pages r) _ _ _ _ (is_bad r p) r.state (not r.leads) primary (applied_of r p) lsn
+    (same_calm h.pages r _ f)
+    (checked_calm h.pages r (link_is_full h.number n full ∷ []) _ f (λ _. quiet_calm h.pages r _ f refl (still h.pages r r f refl refl refl) (leads_still r r refl refl refl refl refl refl refl) (inl (tt, tt))))
+    (same_calm h.pages r _ f)
+    (checked_calm h.pages r (link_is_full h.number n full ∷ []) _ f (λ _. quiet_calm h.pages r _ f refl (still h.pages r r f refl refl refl) (leads_still r r refl refl refl refl refl refl refl) (inl (tt, tt)))))
 
 -- states 3 and 4 revert
 reverts_so : (s : ℕ) → (s == 3) ≡ true → is_reverting s ≡ true
@@ -310,12 +313,12 @@ pub give_calm : (pages : ℕ) (r : Replica) (term p lsn : ℕ) → Fit pages r �
 unfolding page_give_part
 give_calm pages r term p lsn f =
     let held : Replica = with_page r p (record (page r p) { held = Some lsn }) in
-    checked_calm pages r (checks_of_give r term p) _ f
-    (λ _. if_has (PartCalm pages r) (takes_foreign r.state) (comes r p lsn) _
+    checked_calm pages r (of_other_term r term ∷ []) _ f
+    (λ _. arrival_has (PartCalm pages r) _ _ _ _ (is_wanted r p) r.state (applied_of r p) lsn
+    (same_calm pages r _ f)
     (λ three. comes_calm pages r p lsn f three)
-    (λ _. if_has (PartCalm pages r) (may_install (applied_of r p) lsn) (installs r p lsn) (holds r p lsn)
-    (λ _. small_calm pages r _ (install_of r p) (installed (p ∷ []) r) f (install_is_small r p) refl refl refl refl refl refl refl refl)
-    (λ _. still_calm pages r _ held f refl refl refl refl refl refl refl refl)))
+    (small_calm pages r _ (install_of r p) (installed (p ∷ []) r) f (install_is_small r p) refl refl refl refl refl refl refl refl)
+    (still_calm pages r _ held f refl refl refl refl refl refl refl refl))
 
 pub no_page_calm : (pages : ℕ) (r : Replica) (term p : ℕ) → Fit pages r → PartCalm pages r (no_page_part r term p)
 no_page_calm pages r term p f = checked_calm pages r (record { when = not (term == r.term); refusal = Nothing } ∷ []) _ f (λ _. same_calm pages r _ f)

@@ -15,7 +15,7 @@ use Rattle.ag_rules.specs.Replica.{Replica, Kept, Master, records, end, is_rever
 use Rattle.ag_rules.specs.Group.{Group, replica, with_replica, has}
 use Rattle.ag_rules.specs.Plan.{Check, Part, Master_write, here, at_node, written, all_written, each_synced}
 use Rattle.ag_rules.specs.Cut.{cut}
-use Rattle.ag_rules.specs.ResumeMessage.{resume_message_part, checks_of_resume_message, stays, follows_from, reverts_from, goes_on, changes_log, master_at, reverting_master, lowered, page_in_term, foreign_from, may_follow, is_touched_after, waits_for, accepting}
+use Rattle.ag_rules.specs.ResumeMessage.{resume_message_part, checks_of_resume_message, stays, follows_from, reverts_from, goes_on, master_at, reverting_master, lowered, page_in_term, foreign_from, may_follow, is_touched_after, waits_for, accepting}
 use Rattle.ag_rules.specs.KeptLaw.{Confirmed}
 use Rattle.ag_laws.specs.Prefix.{IsPrefixOf}
 use Rattle.ag_laws.specs.Logs.{Logs}
@@ -167,7 +167,7 @@ resume_holds past cs logs grown g n m term fork undo ticket suffix w h there oth
     let waits : waits_for r.following.ticket ticket ≡ true = not-false _ one.1 in
     let answer : IsAnswered logs term fork r = answers waits in
     let told : AtMost (past.told m term) (logs term) fork × (term ≡ past.asked m) = tells waits in
-    if_has Good (goes_on r term fork) (stays n r term fork) (changes_log n r term fork undo foreign)
+    if_has Good (goes_on r term fork) (stays n r term fork) _
     (λ e.
     let two : ((r.state == 4) ≡ true) × (((r.term == term) && (fork == end r)) ≡ true) = and_parts _ _ e in
     let three : ((r.term == term) ≡ true) × ((fork == end r) ≡ true) = and_parts _ _ two.1 in

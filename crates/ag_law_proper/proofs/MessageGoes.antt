@@ -11,7 +11,7 @@ use Rattle.ag_model.specs.declared.config.TermStart.{TermStart}
 use Rattle.ag_model.specs.declared.answer.Answer.{Answer}
 use Rattle.ag_model.specs.declared.answer.Answer.TheVariants.{Installed, NoPage}
 use Rattle.ag_model.specs.declared.answer.Refusal.TheVariants.{Nothing}
-use Rattle.ag_rules.specs.Replica.{Replica, Master, end, peer, with_peer, page, with_page, applied_of, takes_foreign}
+use Rattle.ag_rules.specs.Replica.{Replica, Master, end, peer, with_peer, page, with_page, applied_of, takes_foreign, is_bad, is_wanted}
 use Rattle.ag_rules.specs.Plan.{Here, Posting, Write, Block_write, Master_write, written, all_written, each_synced, writing, at_once}
 use Rattle.ag_rules.specs.Messages.{ack_to}
 use Rattle.ag_rules.specs.SendEvent.{send_part, checks_of_send, sends, with_sent, block_to_send}
@@ -20,14 +20,15 @@ use Rattle.ag_rules.specs.HelloMessage.{hello_part, checks_of_hello, fork_with, 
 use Rattle.ag_rules.specs.ResumeMessage.{resume_message_part, checks_of_resume_message, waits_for, goes_on, stays, may_follow, follows_from, reverts_from, foreign_from}
 use Rattle.ag_rules.specs.BlockMessage.{block_part, cases_of_block, acks}
 use Rattle.ag_rules.specs.AckMessage.{ack_message_part, checks_of_ack_message, known_peer}
-use Rattle.ag_rules.specs.PageAskMessage.{page_ask_part, cases_of_ask}
-use Rattle.ag_rules.specs.PageGiveMessage.{page_give_part, checks_of_give, comes, installs, holds, with_come, is_last, initialising}
+use Rattle.ag_rules.specs.Checks.{of_other_term, link_is_full}
+use Rattle.ag_rules.specs.PageAskMessage.{page_ask_part}
+use Rattle.ag_rules.specs.PageGiveMessage.{page_give_part, comes, installs, holds, with_come, is_last, initialising}
 use Rattle.ag_rules.specs.Redo.{may_install, install_of, installed}
 use Rattle.ag_rules.specs.DeliverEvent.{arrives}
 use Rattle.ag_laws.specs.Logs.{Logs, Setting}
 use Rattle.ag_laws.specs.At.{At}
 use Rattle.ag_laws.specs.Fits.{IsAnswered, BlockFits, ResumeFits, BodyFits}
-use Rattle.ag_laws.proofs.Plans.{if_has, case_has}
+use Rattle.ag_laws.proofs.Plans.{if_has, case_has, question_has, arrival_has}
 use Rattle.ag_laws.proofs.Lists.{all_append}
 use Rattle.ag_laws.proofs.BlockKeeps.{same_term}
 use Rattle.ag_laws.proofs.Steps.{IsSmall}
@@ -116,9 +117,12 @@ block_goes s logs told pages n m h r full term b known fits =
 ask_goes : (logs : Logs) (told : Told) (pages n : ℕ) (h : Here) (r : Replica) (full : Bool) (term p lsn : ℕ) (primary : Bool) → PartGoes logs told pages r (page_ask_part h n r full term p lsn primary)
 unfolding page_ask_part
 ask_goes logs told pages n h r full term p lsn primary =
-    case_has (PartGoes logs told pages r) (cases_of_ask h n r full term p lsn primary) _
-    ((λ _. same_goes logs told pages r _), ((λ _. same_goes logs told pages r _), ((λ _. quiet_goes logs told pages r _ refl refl (lead_same pages r r refl refl) (Plain refl, tt)), ((λ _. same_goes logs told pages r _), ((λ _. same_goes logs told pages r _), tt)))))
-    (λ _. quiet_goes logs told pages r _ refl refl (lead_same pages r r refl refl) (Plain refl, tt))
+    checked_goes logs told pages r (of_other_term r term ∷ []) _
+    (λ _. question_has (PartGoes logs told pages r) _ _ _ _ (is_bad r p) r.state (not r.leads) primary (applied_of r p) lsn
+    (same_goes logs told pages r _)
+    (checked_goes logs told pages r (link_is_full h.number n full ∷ []) _ (λ _. quiet_goes logs told pages r _ refl refl (lead_same pages r r refl refl) (Plain refl, tt)))
+    (same_goes logs told pages r _)
+    (checked_goes logs told pages r (link_is_full h.number n full ∷ []) _ (λ _. quiet_goes logs told pages r _ refl refl (lead_same pages r r refl refl) (Plain refl, tt))))
 
 comes_goes : (s : Setting) (logs : Logs) (told : Told) (pages m : ℕ) (r : Replica) (p lsn : ℕ) → At s logs m r → PartGoes logs told pages r (comes r p lsn)
 comes_goes s logs told pages m r p lsn a =
@@ -131,12 +135,12 @@ give_goes : (s : Setting) (logs : Logs) (told : Told) (pages m : ℕ) (r : Repli
 unfolding page_give_part
 give_goes s logs told pages m r term p lsn a =
     let held : Replica = with_page r p (record (page r p) { held = Some lsn }) in
-    checked_goes logs told pages r (checks_of_give r term p) _
-    (λ _. if_has (PartGoes logs told pages r) (takes_foreign r.state) (comes r p lsn) _
+    checked_goes logs told pages r (of_other_term r term ∷ []) _
+    (λ _. arrival_has (PartGoes logs told pages r) _ _ _ _ (is_wanted r p) r.state (applied_of r p) lsn
+    (same_goes logs told pages r _)
     (λ _. comes_goes s logs told pages m r p lsn a)
-    (λ _. if_has (PartGoes logs told pages r) (may_install (applied_of r p) lsn) (installs r p lsn) (holds r p lsn)
-    (λ _. small_goes logs told pages r _ (install_of r p) (installed (p ∷ []) r) refl (install_is_small r p) (lead_same pages r (installed (p ∷ []) r) refl refl))
-    (λ _. at_once_goes logs told pages r _ held refl (lead_same pages r held refl refl))))
+    (small_goes logs told pages r _ (install_of r p) (installed (p ∷ []) r) refl (install_is_small r p) (lead_same pages r (installed (p ∷ []) r) refl refl))
+    (at_once_goes logs told pages r _ held refl (lead_same pages r held refl refl)))
 
 ack_goes : (logs : Logs) (told : Told) (pages n : ℕ) (r : Replica) (term hardened its_low : ℕ) → PartGoes logs told pages r (ack_message_part n r term hardened its_low)
 unfolding ack_message_part

@@ -9,11 +9,11 @@ use Rattle.ag_model.specs.Rows.{contains, page_numbers}
 use Rattle.ag_model.proofs.PageSets.{pages_where-below}
 use Rattle.ag_master.specs.declared.master.Master.{Master}
 use Rattle.ag_rules.specs.Replica.{Replica, records, end}
-use Rattle.ag_rules.specs.ResumeMessage.{foreign_from, still_initialises, goes_on, reverting_master}
+use Rattle.ag_rules.specs.ResumeMessage.{foreign_from, still_initialises, may_follow, by_fork, goes_on, reverting_master}
 use Rattle.ag_revert.specs.declared.plans.Plan.{Plan}
 use Rattle.ag_revert.specs.declared.plans.Plan.TheVariants.{Follow, Revert, Continue}
 use Rattle.ag_revert.specs.Touched.{touched_after}
-use Rattle.ag_revert.specs.Planned.{union, rule_master, reverting, changes, planned}
+use Rattle.ag_revert.specs.Planned.{union, rule_master, reverting, planned}
 use Rattle.ag_revert.specs.Resumed.{IsMasterOf, AreBelow, IsDone}
 use Rattle.ag_revert.proofs.Starts.{if_has}
 use Rattle.ag_revert.proofs.Touches.{foreign_agrees}
@@ -53,15 +53,19 @@ module _ (pages n term fork undo : ℕ) (r : Replica) (m : Master) (few : pages 
         foreign = foreign;
       }
 
-  told : planned m (end r) term fork undo (touched_after pages (records r) fork) ≡ (if goes_on r term fork then Continue else changes m (end r) term fork undo (foreign_from pages r fork))
+  -- the plan of the replica, with so many foreign pages
+  abbrev plan_of : List ℕ → Plan
+  plan_of foreign = by_fork Continue Follow (Revert (reverting m (end r) term fork undo foreign)) r.state r.term (end r) term fork foreign
+
+  told : planned m (end r) term fork undo (touched_after pages (records r) fork) ≡ plan_of (foreign_from pages r fork)
   told =
-      ap (λ b. if b then Continue else changes m (end r) term fork undo (union m.foreign (touched_after pages (records r) fork))) still
-      ∙ ap (λ ps. if goes_on r term fork then Continue else changes m (end r) term fork undo ps) same_pages
+      ap (λ b. if b then Continue else if may_follow (union m.foreign (touched_after pages (records r) fork)) then Follow else Revert (reverting m (end r) term fork undo (union m.foreign (touched_after pages (records r) fork)))) still
+      ∙ ap plan_of same_pages
 
   pub plan_is_done : IsDone pages n r term fork undo (planned m (end r) term fork undo (touched_after pages (records r) fork))
   plan_is_done =
       subst (λ (p : Plan). IsDone pages n r term fork undo p) (sym told)
-      (if_has (λ (p : Plan). IsDone pages n r term fork undo p) (goes_on r term fork) Continue (changes m (end r) term fork undo (foreign_from pages r fork))
+      (if_has (λ (p : Plan). IsDone pages n r term fork undo p) (goes_on r term fork) Continue _
       (λ on. (on, rw on refl))
       (λ off.
       if_has (λ (p : Plan). IsDone pages n r term fork undo p) (length (foreign_from pages r fork) == 0) Follow (Revert (reverting m (end r) term fork undo (foreign_from pages r fork)))

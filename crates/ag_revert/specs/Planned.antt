@@ -1,10 +1,10 @@
 -- What a replica does once a primary has found the fork of their logs.
-use Rattle.std.specs.Prelude.{ℕ, List, ◌||◌, if◌then◌else◌}
+use Rattle.std.specs.Prelude.{ℕ, List, ◌||◌}
 use Rattle.ag_model.specs.Rows.{contains}
 use Rattle.ag_model.specs.PageSets.{pages_where}
 use Rattle.ag_master.specs.declared.master.Master.{Master}
 use Rattle.ag_rules.specs.Replica.{Master as RuleMaster}
-use Rattle.ag_rules.specs.ResumeMessage.{still_initialises, reverting_after, may_follow}
+use Rattle.ag_rules.specs.ResumeMessage.{reverting_after, by_fork}
 use Rattle.ag_revert.specs.declared.plans.Plan.{Plan}
 use Rattle.ag_revert.specs.declared.plans.Plan.TheVariants.{Follow, Revert, Continue}
 
@@ -32,11 +32,10 @@ with_rule_master m said cut = record m {
 abbrev pub reverting : Master → ℕ → ℕ → ℕ → ℕ → List ℕ → Master
 reverting m log_end term fork end foreign = with_rule_master m (reverting_after (rule_master m) log_end term fork end foreign) fork
 
--- it follows where it may, and else it reverts
-abbrev pub changes : Master → ℕ → ℕ → ℕ → ℕ → List ℕ → Plan
-changes m log_end term fork end foreign = if may_follow foreign then Follow else Revert (reverting m log_end term fork end foreign)
+-- what it does, where these pages would be foreign
+abbrev pub planned_with : Master → ℕ → ℕ → ℕ → ℕ → List ℕ → Plan
+planned_with m log_end term fork end foreign = by_fork Continue Follow (Revert (reverting m log_end term fork end foreign)) m.state m.term log_end term fork foreign
 
 -- what it does, where its own records after the fork touch these pages
 abbrev pub planned : Master → ℕ → ℕ → ℕ → ℕ → List ℕ → Plan
-planned m log_end term fork end touched =
-    if still_initialises m.state m.term log_end term fork then Continue else changes m log_end term fork end (union m.foreign touched)
+planned m log_end term fork end touched = planned_with m log_end term fork end (union m.foreign touched)
