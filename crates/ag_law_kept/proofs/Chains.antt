@@ -52,7 +52,7 @@ pub record InChain (past : Past) (logs : Logs) (g : Group) (all : List Confirmed
   pub reached : t ≤ g.register.term
   pub kept : 0 < length (logs t) → KeptTo logs t c
 
-module _ (past : Past) (ms : List Moment) (logs : Logs) (g : Group) (h : Holds past (confirmed_in ms) logs g) (safe : (t : ℕ) → past.safe t ≡ list_any (is_safe_into t) ms) (ahead : (t : ℕ) → g.register.term < t → past.safe t ≡ false) where
+module _ (past : Past) (cs : List Confirmed) (ms : List Moment) (logs : Logs) (g : Group) (h : Holds past cs logs g) (safe : (t : ℕ) → past.safe t ≡ list_any (is_safe_into t) ms) (ahead : (t : ℕ) → g.register.term < t → past.safe t ≡ false) where
   -- what is known of the target is in its log, before the term's own record
   goes_over : (t f : ℕ) → t + 1 ≤ g.register.term → past.safe (t + 1) ≡ true → IsKnown (past.told (past.target (t + 1)) t) (logs t) f → 0 < length (logs (t + 1)) → (f ≤ length (logs (t + 1))) × (take f (logs t) ≡ take f (logs (t + 1))) × ((i : ℕ) → slice_get (logs (t + 1)) i ≡ Some (Term (t + 1)) → f ≤ i)
   goes_over t f low is_safe k some =
@@ -81,7 +81,7 @@ module _ (past : Past) (ms : List Moment) (logs : Logs) (g : Group) (h : Holds p
         before = o.2;
       }
 
-  old_on : (t : ℕ) → t + 1 ≤ g.register.term → past.safe (t + 1) ≡ true → (c : Confirmed) → InChain past logs g (confirmed_in ms) t c → InChain past logs g (confirmed_in ms) (t + 1) c
+  old_on : (t : ℕ) → t + 1 ≤ g.register.term → past.safe (t + 1) ≡ true → (c : Confirmed) → InChain past logs g cs t c → InChain past logs g cs (t + 1) c
   old_on t low is_safe c p =
       let begun : HasBegun past logs t (past.target (t + 1)) = (h.takens t (omega (arith, low)) is_safe).begun in
       let within : begun.place < length (logs t) = get_within begun.place (logs t) (Term t) begun.is in
@@ -89,7 +89,7 @@ module _ (past : Past) (ms : List Moment) (logs : Logs) (g : Group) (h : Holds p
       let k : IsKnown (past.told (past.target (t + 1)) t) (logs t) c.lsn = known_less (past.told (past.target (t + 1)) t) (logs t) c.lsn (begun.place + 1) (omega (arith, kept.before begun.place begun.is)) begun.known in
       record { is = p.is; found = p.found; below = omega (arith, p.below); reached = low; kept = one_on t c low is_safe (omega (arith, p.below)) k kept.same }
 
-  new_on : (t : ℕ) → t + 1 ≤ g.register.term → past.safe (t + 1) ≡ true → (c : Confirmed) → Found (confirmed_in ms) c × IsConfirmed past logs g.register c → (c.term == t) ≡ true → InChain past logs g (confirmed_in ms) (t + 1) c
+  new_on : (t : ℕ) → t + 1 ≤ g.register.term → past.safe (t + 1) ≡ true → (c : Confirmed) → Found cs c × IsConfirmed past logs g.register c → (c.term == t) ≡ true → InChain past logs g cs (t + 1) c
   new_on t low is_safe c p e =
       let at : c.term ≡ t = eqb-true c.term t e in
       let k : IsKnown (past.told (past.target (t + 1)) t) (logs t) c.lsn = subst (λ (u : ℕ). IsKnown (past.told (past.target (u + 1)) u) (logs u) c.lsn) at (p.1.took (omega (arith, at, low)) (ap (λ u. past.safe (u + 1)) at ∙ is_safe)) in
@@ -101,6 +101,26 @@ module _ (past : Past) (ms : List Moment) (logs : Logs) (g : Group) (h : Holds p
         kept = one_on t c low is_safe (omega (arith, at)) k (λ v high up. let same : v ≡ t = omega (arith, high, up, at) in ap (λ u. take c.lsn (logs u)) same);
       }
 
+  low_term : (t : ℕ) → past.safe t ≡ true → t ≤ g.register.term
+  low_term t is_safe =
+      by_bool (nat_le t g.register.term) (λ v. nat_le t g.register.term ≡ v → t ≤ g.register.term) (λ _ y. leb-true t g.register.term y)
+      (λ _ y. absurd (false≢true (sym (ahead t (omega (arith, leb-false t g.register.term y))) ∙ is_safe))) refl
+
+  -- over safe failovers alone
+  pub chain_from : (c : Confirmed) → Found cs c × IsConfirmed past logs g.register c → (k : ℕ) → ((t : ℕ) → c.term < t → t ≤ c.term + 1 + k → list_any (is_safe_into t) ms ≡ true) → InChain past logs g cs (c.term + 1 + k) c
+  chain_from c p zero all =
+      let at : c.term + 1 + 0 ≡ c.term + 1 = omega arith in
+      let is_safe : past.safe (c.term + 1) ≡ true = safe (c.term + 1) ∙ all (c.term + 1) (omega arith) (omega arith) in
+      subst (λ (t : ℕ). InChain past logs g cs t c) (sym at) (new_on c.term (low_term (c.term + 1) is_safe) is_safe c p (eq-eqb c.term c.term refl))
+  chain_from c p (suc k) all =
+      let one : c.term + 1 + k + 1 ≡ c.term + 1 + suc k = omega arith in
+      let is_safe : past.safe (c.term + 1 + k + 1) ≡ true = safe (c.term + 1 + k + 1) ∙ all (c.term + 1 + k + 1) (omega arith) (omega arith) in
+      subst (λ (t : ℕ). InChain past logs g cs t c) one (old_on (c.term + 1 + k) (low_term (c.term + 1 + k + 1) is_safe) is_safe c (chain_from c p k (λ t high up. all t high (omega (arith, up)))))
+
+  pub all_chained : AllByRecursion (λ c. Found cs c × IsConfirmed past logs g.register c) cs
+  all_chained = both (Found cs) (IsConfirmed past logs g.register) cs (all_found cs) h.commits
+
+module _ (past : Past) (ms : List Moment) (logs : Logs) (g : Group) (h : Holds past (confirmed_in ms) logs g) (safe : (t : ℕ) → past.safe t ≡ list_any (is_safe_into t) ms) (ahead : (t : ℕ) → g.register.term < t → past.safe t ≡ false) where
   pub chain : (t : ℕ) → AllByRecursion (InChain past logs g (confirmed_in ms) t) (to_keep ms t)
   chain zero = tt
   chain (suc t) =
@@ -108,13 +128,11 @@ module _ (past : Past) (ms : List Moment) (logs : Logs) (g : Group) (h : Holds p
       if_has (AllByRecursion (InChain past logs g (confirmed_in ms) (suc t))) (list_any (is_safe_into (suc t)) ms) (to_keep ms t ++ filter (λ c. c.term == t) (confirmed_in ms)) []
       (λ e.
       let is_safe : past.safe (t + 1) ≡ true = ap past.safe one ∙ safe (suc t) ∙ e in
-      let low : t + 1 ≤ g.register.term =
-      by_bool (nat_le (t + 1) g.register.term) (λ v. nat_le (t + 1) g.register.term ≡ v → t + 1 ≤ g.register.term) (λ _ y. leb-true (t + 1) g.register.term y)
-      (λ _ y. absurd (false≢true (sym (ahead (t + 1) (omega (arith, leb-false (t + 1) g.register.term y))) ∙ is_safe))) refl in
+      let low : t + 1 ≤ g.register.term = low_term past (confirmed_in ms) ms logs g h safe ahead (t + 1) is_safe in
       subst (λ (u : ℕ). AllByRecursion (InChain past logs g (confirmed_in ms) u) (to_keep ms t ++ filter (λ c. c.term == t) (confirmed_in ms))) one
       (all_append (InChain past logs g (confirmed_in ms) (t + 1)) (to_keep ms t) (filter (λ c. c.term == t) (confirmed_in ms))
-      (all_map (InChain past logs g (confirmed_in ms) t) (InChain past logs g (confirmed_in ms) (t + 1)) (old_on t low is_safe) (to_keep ms t) (chain t))
-      (all_passing (λ c. Found (confirmed_in ms) c × IsConfirmed past logs g.register c) (InChain past logs g (confirmed_in ms) (t + 1)) (λ c. c.term == t) (new_on t low is_safe) (confirmed_in ms) (both (Found (confirmed_in ms)) (IsConfirmed past logs g.register) (confirmed_in ms) (all_found (confirmed_in ms)) h.commits))))
+      (all_map (InChain past logs g (confirmed_in ms) t) (InChain past logs g (confirmed_in ms) (t + 1)) (old_on past (confirmed_in ms) ms logs g h safe ahead t low is_safe) (to_keep ms t) (chain t))
+      (all_passing (λ c. Found (confirmed_in ms) c × IsConfirmed past logs g.register c) (InChain past logs g (confirmed_in ms) (t + 1)) (λ c. c.term == t) (new_on past (confirmed_in ms) ms logs g h safe ahead t low is_safe) (confirmed_in ms) (all_chained past (confirmed_in ms) ms logs g h safe ahead))))
       (λ _. tt)
 
 -- the greatest term of those that pass

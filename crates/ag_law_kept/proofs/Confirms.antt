@@ -1,4 +1,4 @@
--- `ack`: what is confirmed as synchronous is known of each member of the set, or of the target of a safe failover.
+-- `ack`: what is confirmed is known of each member of the set, or of the target of a safe failover.
 use Rattle.std.specs.Prelude.{if◌then◌else◌, nat_lt, ◌&&◌, slice_get}
 use Rattle.std.proofs.Common.{◌≡◌, ℕ, ◌+◌, ◌-◌, ◌<◌, ◌≤◌, List, [], ◌∷◌, ◌++◌, length, true, false, refl, sym, ap, ◌∙◌, arith}
 use Rattle.std.specs.List.{AllByRecursion}
@@ -9,10 +9,11 @@ use Rattle.ag_rules.specs.Replica.{Replica, records, end, peer}
 use Rattle.ag_rules.specs.Group.{Group, replica, has}
 use Rattle.ag_rules.specs.Plan.{here, at_once}
 use Rattle.ag_rules.specs.AckEvent.{ack_part, checks_of_ack, late, late_members, is_late, is_local, confirmed}
-use Rattle.ag_rules.specs.KeptLaw.{Confirmed, confirmed_by}
+use Rattle.ag_rules.specs.KeptLaw.{Confirmed}
 use Rattle.ag_laws.specs.Logs.{Logs}
 use Rattle.ag_laws.proofs.Plans.{by_bool, if_has, unless_has}
 use Rattle.ag_laws.proofs.Lists.{all_append}
+use Rattle.ag_law_kept.specs.Local.{all_confirmed_by}
 use Rattle.ag_law_kept.specs.Known.{IsKnown}
 use Rattle.ag_law_kept.specs.Past.{Past}
 use Rattle.ag_law_kept.specs.Holds.{IsLeader, IsConfirmed, Holds}
@@ -51,16 +52,16 @@ module _ (past : Past) (cs : List Confirmed) (logs : Logs) (g : Group) (n lsn : 
       not_late m e member = ltb-false (peer (replica g n) m).hardened lsn (sym (ap (λ b. b && nat_lt (peer (replica g n) m).hardened lsn) member) ∙ e)
 
   -- what `ack` confirms
-  pub ack_confirms : AllByRecursion (IsConfirmed past logs g.register) (confirmed_by (replica g n) (ack_part (here g n) (replica g n) lsn).answer)
+  pub ack_confirms : AllByRecursion (IsConfirmed past logs g.register) (all_confirmed_by (replica g n) (ack_part (here g n) (replica g n) lsn).answer)
   unfolding ack_part
   ack_confirms =
-      unless_has (λ part. AllByRecursion (IsConfirmed past logs g.register) (confirmed_by (replica g n) part.answer)) (checks_of_ack (here g n) (replica g n) lsn (late (here g n) (replica g n) lsn)) (replica g n) (at_once (confirmed (replica g n) lsn) (replica g n))
+      unless_has (λ part. AllByRecursion (IsConfirmed past logs g.register) (all_confirmed_by (replica g n) part.answer)) (checks_of_ack (here g n) (replica g n) lsn (late (here g n) (replica g n) lsn)) (replica g n) (at_once (confirmed (replica g n) lsn) (replica g n))
       (λ why. tt)
-      (λ p. if_has (λ (a : Answer). AllByRecursion (IsConfirmed past logs g.register) (confirmed_by (replica g n) a)) (is_local (replica g n).leading.synced) (LocalAt lsn) (SyncAt lsn)
-      (λ _. tt)
+      (λ p. if_has (λ (a : Answer). AllByRecursion (IsConfirmed past logs g.register) (all_confirmed_by (replica g n) a)) (is_local (replica g n).leading.synced) (LocalAt lsn) (SyncAt lsn)
+      (λ _. (confirms (not-false _ p.1.0) (ltb-true 0 lsn (and_parts _ _ (not-false _ p.1.1.0)).0) (omega (arith, ltb-false 0 (length (late (here g n) (replica g n) lsn)) p.1.1.1.0)), tt))
       (λ _. (confirms (not-false _ p.1.0) (ltb-true 0 lsn (and_parts _ _ (not-false _ p.1.1.0)).0) (omega (arith, ltb-false 0 (length (late (here g n) (replica g n) lsn)) p.1.1.1.0)), tt)))
 
-  pub ack_holds : Holds past (cs ++ confirmed_by (replica g n) (ack_part (here g n) (replica g n) lsn).answer) logs g
+  pub ack_holds : Holds past (cs ++ all_confirmed_by (replica g n) (ack_part (here g n) (replica g n) lsn).answer) logs g
   ack_holds = record {
     asked = h.asked;
     knowing = h.knowing;
@@ -70,5 +71,5 @@ module _ (past : Past) (cs : List Confirmed) (logs : Logs) (g : Group) (n lsn : 
     members = h.members;
     takens = h.takens;
     targets = h.targets;
-    commits = all_append (IsConfirmed past logs g.register) cs (confirmed_by (replica g n) (ack_part (here g n) (replica g n) lsn).answer) h.commits ack_confirms;
+    commits = all_append (IsConfirmed past logs g.register) cs (all_confirmed_by (replica g n) (ack_part (here g n) (replica g n) lsn).answer) h.commits ack_confirms;
   }

@@ -1,6 +1,8 @@
--- A worked example of what is known of peers, and of members, by computation alone.
+-- Worked examples of what is known of peers, of members, and of what was confirmed, by computation alone.
 use Rattle.std.proofs.Common.{◌≡◌, List, [], ◌∷◌, replicate, true, refl}
+use Rattle.std.specs.Prelude.{Some}
 use Rattle.std.specs.List.{flat_map}
+use Rattle.ag_model.specs.declared.record.Record.TheVariants as D
 use Rattle.ag_model.specs.declared.value.Value.{Value}
 use Rattle.ag_model.specs.declared.config.Config.{Config}
 use Rattle.ag_model.specs.declared.config.Mode.TheVariants as M
@@ -12,6 +14,7 @@ use Rattle.ag_rules.specs.Replica.{end, peer}
 use Rattle.ag_rules.specs.Group.{replica, has, opening_replica, opening}
 use Rattle.ag_rules.specs.Run.{run}
 use Rattle.ag_rules.specs.Access.{access}
+use Rattle.ag_rules.specs.AckEvent.{ack_part}
 use Rattle.ag_rules.specs.AckMessage.{ack_message_part}
 use Rattle.ag_rules.specs.BlockMessage.{block_part}
 use Rattle.ag_rules.specs.DeliverEvent.{plan_of_deliver}
@@ -20,6 +23,9 @@ use Rattle.ag_rules.specs.JoinEvent.{join_part}
 use Rattle.ag_rules.specs.Next.{done}
 use Rattle.ag_rules.specs.SendEvent.{send_part}
 use Rattle.ag_rules.specs.SetEvent.{set_part}
+use Rattle.ag_rules.specs.SyncEvent.{plan_of_timeout}
+use Rattle.ag_rules.specs.KeptLaw.{confirmed_in}
+use Rattle.ag_law_kept.specs.Local.{all_confirmed_in}
 use Rattle.ag_model.specs.Page.{value}
 
 abbrev config : Config
@@ -53,3 +59,18 @@ members = refl
 states : flat_map (λ m. (replica m.after 1).state ∷ []) (run config events) ≡ 1 ∷ 1 ∷ 1 ∷ 1 ∷ 0 ∷ 0 ∷ []
 unfolding access ack_message_part block_part plan_of_deliver harden_part join_part done send_part set_part opening_replica opening value
 states = refl
+
+-- nobody is waited for; a transaction of A is acknowledged once it is hardened, and not before
+abbrev alone : List Event
+alone =
+    E.Timeout (W.Letter 0) (W.Letter 1) S.Whole
+    ∷ E.Set (W.Letter 0) (record { key = 5; value = nothing } ∷ []) S.Whole
+    ∷ E.Ack (W.Letter 0) 3 S.Whole
+    ∷ E.Harden (W.Letter 0) S.Whole
+    ∷ E.Ack (W.Letter 0) 3 S.Whole
+    ∷ []
+
+-- it was confirmed, and not as synchronous
+confirmed_alone : (all_confirmed_in (run config alone) ≡ record { term = 1; lsn = 3; commit = Some (D.Commit 1 (21 ∷ [])) } ∷ []) × (confirmed_in (run config alone) ≡ [])
+unfolding access ack_part harden_part done set_part plan_of_timeout opening_replica opening value
+confirmed_alone = (refl, refl)

@@ -20,6 +20,7 @@ use Rattle.ag_laws.proofs.Lists.{all_map}
 use Rattle.ag_law_kept.proofs.Known.{get_prefix, get_within, take_is_prefix}
 use Rattle.ag_law_kept.proofs.Logged.{term_log_is}
 use Rattle.ag_law_kept.proofs.Runs.{Reached, Ended, opened, run_on}
+use Rattle.ag_law_kept.proofs.Syncs.{only_sync}
 use Rattle.ag_law_kept.proofs.Chains.{KeptTo, InChain, chain, LastIn, last_in, commit_some, starts_are}
 
 none_kept : {X Y : Type 0} (P : X → Y → Type 0) (xs : List X) → AllByRecursion (λ x. AllByRecursion (P x) []) xs
@@ -34,11 +35,11 @@ last_of_take f a b some la lb same =
     ∙ get_prefix (f - 1) (take f b) b (omega (arith, some, length-take-le f b lb)) (take_is_prefix f b)
 
 -- where a term's own record stands
-record IsStart (t : ℕ) (log : List Record) (s : TermStart) : Type 0 where
-  some : 0 < s.lsn
-  is : slice_get log (s.lsn - 1) ≡ Some (Term t)
+pub record IsStart (t : ℕ) (log : List Record) (s : TermStart) : Type 0 where
+  pub some : 0 < s.lsn
+  pub is : slice_get log (s.lsn - 1) ≡ Some (Term t)
 
-starts_passing : (t : ℕ) (log : List Record) (ss : List TermStart) → AllByRecursion (λ (s : TermStart). (0 < s.lsn) × (slice_get log (s.lsn - (0 + 1)) ≡ Some (Term s.term))) ss → AllByRecursion (IsStart t log) (filter (λ s. s.term == t) ss)
+pub starts_passing : (t : ℕ) (log : List Record) (ss : List TermStart) → AllByRecursion (λ (s : TermStart). (0 < s.lsn) × (slice_get log (s.lsn - (0 + 1)) ≡ Some (Term s.term))) ss → AllByRecursion (IsStart t log) (filter (λ s. s.term == t) ss)
 starts_passing t log [] p = tt
 starts_passing t log (s ∷ ss) p =
     by_bool (s.term == t) (λ v. (s.term == t) ≡ v → AllByRecursion (IsStart t log) (if v then s ∷ filter (λ x. x.term == t) ss else filter (λ x. x.term == t) ss))
@@ -55,7 +56,7 @@ kept_in c ms e (suc u) =
     let now : ℕ = e.last.register.term in
     let same_now : now ≡ r.setting.now = r.good.now in
     let told : (v : ℕ) → 0 < v → v ≤ now → term_log ms v ≡ logs v = λ v some low. term_log_is r.setting r.logs ms v e.told some (omega (arith, low, same_now)) in
-    let ins : AllByRecursion (InChain r.past r.logs e.last (confirmed_in ms) t) (to_keep ms t) = chain r.past ms r.logs e.last r.holds r.safe r.remembers.ahead t in
+    let ins : AllByRecursion (InChain r.past r.logs e.last (confirmed_in ms) t) (to_keep ms t) = chain r.past ms r.logs e.last (only_sync r.past ms r.logs e.last r.holds) r.safe r.remembers.ahead t in
     all_map (IsStart t (term_log ms t)) (λ s. AllByRecursion (IsKept ms t s) (to_keep ms t))
     (λ s start. all_map (InChain r.past r.logs e.last (confirmed_in ms) t) (IsKept ms t s)
     (λ d p.

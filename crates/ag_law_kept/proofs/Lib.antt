@@ -27,5 +27,7 @@ pub mod Logged
 pub mod Runs
 pub mod Moments
 pub mod Chains
+pub mod Syncs
 pub mod Kept
+pub mod Local
 mod Examples

@@ -13,7 +13,7 @@ use Rattle.ag_rules.specs.Next.{done}
 use Rattle.ag_rules.specs.Run.{Moment, moment, moments_from}
 use Rattle.ag_rules.specs.Script.{IsEvent, IsScript}
 use Rattle.ag_rules.specs.TermLog.{groups, longer, longest}
-use Rattle.ag_rules.specs.KeptLaw.{Confirmed, confirmed_at, confirmed_in, is_safe_into}
+use Rattle.ag_rules.specs.KeptLaw.{Confirmed, is_safe_into}
 use Rattle.ag_laws.specs.Logs.{Setting, Logs}
 use Rattle.ag_laws.specs.Good.{Good}
 use Rattle.ag_laws.specs.First.{first_setting, first_logs}
@@ -24,6 +24,7 @@ use Rattle.ag_laws.proofs.Opening.{opening_good}
 use Rattle.ag_law_kept.specs.Past.{Past}
 use Rattle.ag_law_kept.specs.Holds.{Holds}
 use Rattle.ag_law_kept.specs.Laws.{AtEach}
+use Rattle.ag_law_kept.specs.Local.{all_confirmed_at, all_confirmed_in}
 use Rattle.ag_law_kept.proofs.Nexts.{Remembers, Next}
 use Rattle.ag_law_kept.proofs.Steps.{next_event}
 use Rattle.ag_law_kept.proofs.Opens.{first_past, opening_remembers, opening_holds, IsThere, there_first}
@@ -37,7 +38,7 @@ pub record Reached (c : Config) (ms : List Moment) (g : Group) : Type 0 where
   pub config : setting.config ≡ c
   pub good : Good setting logs g
   pub remembers : Remembers past setting g
-  pub holds : Holds past (confirmed_in ms) logs g
+  pub holds : Holds past (all_confirmed_in ms) logs g
   pub safe : (t : ℕ) → past.safe t ≡ list_any (is_safe_into t) ms
   pub logged : Logged setting logs (groups ms ++ g ∷ [])
 
@@ -59,10 +60,10 @@ step c ms g e is r =
     let after : Group = (done g e).after in
     let is2 : IsEvent r.setting.config e = subst (λ (x : Config). IsEvent x e) (sym r.config) is in
     let k : Keeps r.setting r.logs g after = next_keeps r.setting r.logs g e r.good is2 in
-    let n : Next r.past (confirmed_in ms ++ confirmed_at g e (done g e).answer) k.setting k.grown g after = next_event r.past (confirmed_in ms) r.setting r.logs g r.good r.remembers r.holds e is2 k in
+    let n : Next r.past (all_confirmed_in ms ++ all_confirmed_at g e (done g e).answer) k.setting k.grown g after = next_event r.past (all_confirmed_in ms) r.setting r.logs g r.good r.remembers r.holds e is2 k in
     let told : Logged k.setting k.grown (groups (ms ++ moment g e ∷ [])) = subst (Logged k.setting k.grown) (groups_push ms g e) (logged_next r.setting k.setting r.logs k.grown (groups ms ++ g ∷ []) after r.logged r.good.are.future k.good k.later k.step) in
-    let same : confirmed_in ms ++ confirmed_at g e (done g e).answer ≡ confirmed_in (ms ++ moment g e ∷ []) =
-    ap (λ l. confirmed_in ms ++ l) (sym (append-nil (confirmed_at g e (done g e).answer))) ∙ sym (flat_map_append (λ (m : Moment). confirmed_at m.before m.event m.answer) ms (moment g e ∷ [])) in
+    let same : all_confirmed_in ms ++ all_confirmed_at g e (done g e).answer ≡ all_confirmed_in (ms ++ moment g e ∷ []) =
+    ap (λ l. all_confirmed_in ms ++ l) (sym (append-nil (all_confirmed_at g e (done g e).answer))) ∙ sym (flat_map_append (λ (m : Moment). all_confirmed_at m.before m.event m.answer) ms (moment g e ∷ [])) in
     record {
       reached = record {
         past = n.now;

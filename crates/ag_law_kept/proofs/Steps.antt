@@ -13,13 +13,14 @@ use Rattle.ag_rules.specs.Next.{named, at_session, token, plan_of, suffix_of, do
 use Rattle.ag_rules.specs.Script.{IsEvent, IsWho}
 use Rattle.ag_rules.specs.AckEvent.{ack_part}
 use Rattle.ag_rules.specs.JoinEvent.{join_part}
-use Rattle.ag_rules.specs.KeptLaw.{Confirmed, confirmed_by, confirmed_at}
+use Rattle.ag_rules.specs.KeptLaw.{Confirmed}
 use Rattle.ag_laws.specs.Logs.{Logs, Setting}
 use Rattle.ag_laws.specs.Good.{Good}
 use Rattle.ag_laws.specs.Keeps.{Keeps}
 use Rattle.ag_laws.proofs.Events.{named_there}
 use Rattle.ag_law_kept.specs.Past.{Past}
 use Rattle.ag_law_kept.specs.Holds.{Holds}
+use Rattle.ag_law_kept.specs.Local.{all_confirmed_by, all_confirmed_at}
 use Rattle.ag_law_kept.proofs.World.{IsWorld, AreGrown, world}
 use Rattle.ag_law_kept.proofs.Goes.{Fit, fit_of, Outcome}
 use Rattle.ag_law_kept.proofs.Calm.{PartCalm, begin_calm, get_calm, put_calm, end_calm, set_calm, trim_calm, ack_event_calm, raise_calm, apply_calm, redo_calm, read_calm, view_calm, snap_calm, close_calm, suspects_calm, page_calm, sectors_calm, status_calm, spoil_calm, unread_calm, ask_event_calm, cut_event_calm}
@@ -100,22 +101,22 @@ module _ (past : Past) (cs : List Confirmed) (s : Setting) (logs : Logs) (g : Gr
 
   -- an `ack`, with what it confirms
   ack_next : (v : Who) (lsn : ℕ) (suffix : Suffix) → IsWho s.config v → (let p = cut suffix (at_node g (named g v) (ack_part (here g (named g v)) (replica g (named g v)) lsn)) in
-      (k : Keeps s logs g p.after) → Next past (cs ++ confirmed_by (replica g (named g v)) p.answer) k.setting k.grown g p.after)
+      (k : Keeps s logs g p.after) → Next past (cs ++ all_confirmed_by (replica g (named g v)) p.answer) k.setting k.grown g p.after)
   ack_next v lsn suffix is =
       let n : ℕ = named g v in
       let part : Part = ack_part (here g n) (replica g n) lsn in
       let w : IsWorld past logs g = world past s logs g r.meets good in
-      let cs2 : List Confirmed = cs ++ confirmed_by (replica g n) part.answer in
+      let cs2 : List Confirmed = cs ++ all_confirmed_by (replica g n) part.answer in
       let h2 : Holds past cs2 logs g = ack_holds past cs logs g n lsn w h in
       let whole : cut suffix (at_node g n part) ≡ at_node g n part = cut_quiet suffix (at_node g n part) (no_writes n) in
-      subst (λ (p : Plan). (k : Keeps s logs g p.after) → Next past (cs ++ confirmed_by (replica g n) p.answer) k.setting k.grown g p.after) (sym whole)
+      subst (λ (p : Plan). (k : Keeps s logs g p.after) → Next past (cs ++ all_confirmed_by (replica g n) p.answer) k.setting k.grown g p.after) (sym whole)
       (λ k. next_same past cs2 s logs g (at_node g n part).after good r k (ap (λ (p : Plan). p.after.register.term) (sym whole) ∙ ap (λ (x : Register). x.term) (cut_register g n part suffix))
       (subst (λ (p : Plan). IsWorld past k.grown p.after → AreGrown past logs k.grown p.after → Outcome past cs2 k.grown p.after) whole (cut_calm past cs2 logs k.grown g n part suffix w h2 (named_there s logs g v good is) (ack_event_calm (here g n) (replica g n) lsn (fit_of past n g.config.pages (replica g n) (h.states n))))))
     where
       no_writes : (n : ℕ) → (at_node g n (ack_part (here g n) (replica g n) lsn)).writes ≡ []
       no_writes n = ack_quiet (here g n) (replica g n) lsn
 
-  pub next_event : (e : Event) → IsEvent s.config e → (k : Keeps s logs g (done g e).after) → Next past (cs ++ confirmed_at g e (done g e).answer) k.setting k.grown g (done g e).after
+  pub next_event : (e : Event) → IsEvent s.config e → (k : Keeps s logs g (done g e).after) → Next past (cs ++ all_confirmed_at g e (done g e).answer) k.setting k.grown g (done g e).after
   unfolding done
   next_event (Ack v lsn suffix) is k = ack_next v lsn suffix is k
   next_event e is k = subst (λ (c : List Confirmed). Next past c k.setting k.grown g (done g e).after) (sym (append-nil cs)) (plan_next e is k)

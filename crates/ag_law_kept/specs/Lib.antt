@@ -3,3 +3,4 @@ pub mod Past
 pub mod Tells
 pub mod Holds
 pub mod Laws
+pub mod Local

@@ -9,6 +9,7 @@ ghost use Rattle.ag_rules.specs.Run.{run};
 ghost use Rattle.ag_rules.specs.Script.{IsScript};
 ghost use Rattle.ag_rules.specs.KeptLaw.{KeptLaw};
 ghost use Rattle.ag_law_kept.specs.Laws.{MembersLaw, PeersLaw};
+ghost use Rattle.ag_law_kept.specs.Local.{ConfirmedLaw};
 
 /// No member of the store's set is in state 3 or 4, at any moment of a run.
 pub fn no_member_reverts()
@@ -25,4 +26,10 @@ pub fn peers_are_known()
 /// own LSN, below that record, after the same records as where it was confirmed last.
 pub fn failovers_keep_commits()
     ensures kept { (c : Config) (es : List Event) → 0 < length c.modes → IsScript c es → KeptLaw (run c es) }
+{}
+
+/// In a run, each Commit that was confirmed, as synchronous or by the primary alone, is a record of the log of its term, and
+/// stands in the log of each later term that has begun and that safe failovers alone led to.
+pub fn confirmed_commits_stay()
+    ensures stays { (c : Config) (es : List Event) → 0 < length c.modes → IsScript c es → ConfirmedLaw (run c es) }
 {}
