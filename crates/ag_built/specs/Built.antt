@@ -4,7 +4,6 @@ use Rattle.std.specs.List.{AllByRecursion}
 use Rattle.ag_model.specs.declared.event.Who.{Who}
 use Rattle.ag_model.specs.declared.event.Who.TheVariants.{Letter, Primary}
 use Rattle.ag_model.specs.declared.event.Pair.{Pair}
-use Rattle.ag_model.specs.declared.event.Suffix.TheVariants.{Whole}
 use Rattle.ag_model.specs.declared.event.Event.{Event}
 use Rattle.ag_model.specs.declared.event.Event.TheVariants.{Set, Harden, Send, Deliver, Repeat, Lose, Apply, Raise, Redo, Read, Crash, Start, Status}
 use Rattle.ag_model.specs.declared.message.Message.{Message}
@@ -19,21 +18,21 @@ abbrev pub IsLetter : Who → Type 0
 IsLetter (Letter n) = Unit {0}
 IsLetter Primary = ⊥
 
--- the events of whole transactions, of links, of redo, and of crash and start, for replicas by their letters and without a suffix
+-- the events of whole transactions, of links, of redo, and of crash and start, for replicas by their letters, with any suffix
 abbrev pub IsBuilt : Event → Type 0
-IsBuilt (Set w pairs suffix) = IsLetter w × (suffix ≡ Whole)
-IsBuilt (Harden w suffix) = IsLetter w × (suffix ≡ Whole)
-IsBuilt (Send w v suffix) = IsLetter w × IsLetter v × (suffix ≡ Whole)
-IsBuilt (Deliver w v i suffix) = IsLetter w × IsLetter v × (suffix ≡ Whole)
-IsBuilt (Repeat w v i suffix) = IsLetter w × IsLetter v × (suffix ≡ Whole)
-IsBuilt (Lose w v i suffix) = IsLetter w × IsLetter v × (suffix ≡ Whole)
-IsBuilt (Apply w x suffix) = IsLetter w × (suffix ≡ Whole)
-IsBuilt (Raise w x suffix) = IsLetter w × (suffix ≡ Whole)
-IsBuilt (Redo w suffix) = IsLetter w × (suffix ≡ Whole)
-IsBuilt (Read w session key suffix) = IsLetter w × (suffix ≡ Whole)
-IsBuilt (Crash w suffix) = IsLetter w × (suffix ≡ Whole)
-IsBuilt (Start w suffix) = IsLetter w × (suffix ≡ Whole)
-IsBuilt (Status w suffix) = IsLetter w × (suffix ≡ Whole)
+IsBuilt (Set w pairs suffix) = IsLetter w
+IsBuilt (Harden w suffix) = IsLetter w
+IsBuilt (Send w v suffix) = IsLetter w × IsLetter v
+IsBuilt (Deliver w v i suffix) = IsLetter w × IsLetter v
+IsBuilt (Repeat w v i suffix) = IsLetter w × IsLetter v
+IsBuilt (Lose w v i suffix) = IsLetter w × IsLetter v
+IsBuilt (Apply w x suffix) = IsLetter w
+IsBuilt (Raise w x suffix) = IsLetter w
+IsBuilt (Redo w suffix) = IsLetter w
+IsBuilt (Read w session key suffix) = IsLetter w
+IsBuilt (Crash w suffix) = IsLetter w
+IsBuilt (Start w suffix) = IsLetter w
+IsBuilt (Status w suffix) = IsLetter w
 IsBuilt _ = ⊥
 
 -- all of these events are built

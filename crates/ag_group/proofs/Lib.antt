@@ -1,4 +1,5 @@
 pub mod CommandWords
+pub mod Cuts
 pub mod Lifts
 pub mod Openings
 pub mod Refused

@@ -1,17 +1,17 @@
 -- An event of one node, as an event of the group.
 use Rattle.std.proofs.Common.{◌≡◌, ℕ, zero, suc, ◌+◌, ◌<◌, List, [], ◌∷◌, ◌++◌, length, get_or, set, Bool, true, false, not, refl, sym, ap, ◌∙◌, subst, arith}
-use Rattle.std.specs.Prelude.{Option, Some, None, if◌then◌else◌}
+use Rattle.std.specs.Prelude.{Option, Some, None, slice_get, if◌then◌else◌, ◌-◌, ◌==◌}
 use Rattle.std.proofs.lemmas.List.{get_or_read, set-get_or}
 use Rattle.ag_model.specs.declared.config.Token.{Token}
 use Rattle.ag_model.specs.declared.event.Pair.{Pair}
 use Rattle.ag_model.specs.declared.record.Record.{Record}
 use Rattle.ag_model.specs.declared.answer.Answer.{Answer}
 use Rattle.ag_rules.specs.Replica.{Replica}
-use Rattle.ag_rules.specs.Group.{Group, replica, nobody, with_replica}
-use Rattle.ag_rules.specs.Plan.{Part, Posting, Here, Check, Case, here, at_node, posted, unless, first_case, refused, at_once}
+use Rattle.ag_rules.specs.Group.{Group, replica, nobody, with_replica, link, is_full}
+use Rattle.ag_rules.specs.Plan.{Part, Plan, Posting, Here, Check, Case, here, at_node, posted, unless, first_case, refused, at_once}
 use Rattle.ag_rules.specs.Access.{access, cases_of_access}
 use Rattle.ag_model.specs.declared.answer.Answer.TheVariants.{Lsn, Crashed, Status}
-use Rattle.ag_model.specs.declared.answer.Refusal.TheVariants.{Down}
+use Rattle.ag_model.specs.declared.answer.Refusal.TheVariants.{Down, Nothing}
 use Rattle.ag_model.specs.declared.config.Mode.{Mode}
 use Rattle.ag_model.specs.Rows.{page_of, rows}
 use Rattle.ag_rules.specs.Replica.{end, fallen, front, full_end, effective, is_reverting, records, page_value, stripe}
@@ -31,16 +31,16 @@ use Rattle.ag_model.specs.declared.message.Message.{Message}
 use Rattle.ag_model.specs.declared.message.Body.{Body}
 use Rattle.ag_model.specs.declared.message.Body.TheVariants.{Block, Ack}
 use Rattle.ag_rules.specs.Checks.{is_down}
-use Rattle.ag_rules.specs.SendEvent.{send_part}
+use Rattle.ag_rules.specs.SendEvent.{send_part, sends, checks_of_send, block_to_send}
 use Rattle.ag_rules.specs.BlockMessage.{block_part}
-use Rattle.ag_rules.specs.DeliverEvent.{message_part, arrives, taken}
+use Rattle.ag_rules.specs.DeliverEvent.{message_part, arrives, taken, plan_of_lose, plan_of_loss}
 use Rattle.std.specs.Prelude.{max}
 use Rattle.std.specs.List.{AllByRecursion}
 use Rattle.ag_model.specs.declared.answer.Answer.TheVariants.{Known, Raised}
 use Rattle.ag_rules.specs.Replica.{peer, with_peer}
 use Rattle.ag_rules.specs.AckMessage.{ack_message_part, checks_of_ack_message, known_peer}
 use Rattle.ag_built.specs.Built.{IsBuiltBody}
-use Rattle.ag_rules.specs.Next.{at_session, with_token, token_after, token, session_of}
+use Rattle.ag_rules.specs.Next.{apart, at_session, with_token, token_after, token, session_of}
 use Rattle.ag_node.specs.declared.site.Site.{Site}
 use Rattle.ag_node.specs.Sites.{here_at, here_among}
 
@@ -80,7 +80,7 @@ told F free g g' n n' site old answer within a b c e o step is =
 
 -- parts that send nothing
 
-unless_out : (cs : List Check) (r : Replica) (part : Part) → part.out ≡ [] → (unless cs r part).out ≡ []
+pub unless_out : (cs : List Check) (r : Replica) (part : Part) → part.out ≡ [] → (unless cs r part).out ≡ []
 unless_out [] r part h = h
 unless_out (c ∷ cs) r part h = elim (c.when) as (λ b. (if b then refused c.refusal r else unless cs r part).out ≡ []) [ true ↦ refl | false ↦ unless_out cs r part h ]
 
@@ -243,7 +243,7 @@ if_out : (b : Bool) (x y : Part) → x.out ≡ [] → y.out ≡ [] → (if b the
 if_out true x y p q = p
 if_out false x y p q = q
 
-start_quiet : IsQuiet start_part
+pub start_quiet : IsQuiet start_part
 unfolding start_part
 start_quiet h r =
     let new = start_records h r in
@@ -254,19 +254,57 @@ start_quiet h r =
 place_among : (g : Group) (n : ℕ) (site : Site) (modes : List Mode) → site.number ≡ n → site.pages ≡ g.config.pages → site.store ≡ g.register → modes ≡ g.config.modes → here_among site modes ≡ here g n
 place_among g n site modes a b c m = λ i. record { number = a i; pages = b i; modes = m i; store = c i }
 
-start_is : (g : Group) (n n' : ℕ) (site : Site) (modes : List Mode) (old : Replica) → n < length g.replicas → site.number ≡ n → site.pages ≡ g.config.pages → site.store ≡ g.register → modes ≡ g.config.modes → n' ≡ n → old ≡ get_or g.replicas n' old
-    → start_part (here_among site modes) old ≡ start_part (here g n) (replica g n)
-start_is g n n' site modes old within a b c m e o = λ i. start_part (place_among g n site modes a b c m i) (get_or_read g.replicas n old within (o ∙ ap (λ (k : ℕ). get_or g.replicas k old) e) nobody i)
+among_is : (F : Doing) (g : Group) (n n' : ℕ) (site : Site) (modes : List Mode) (old : Replica) → n < length g.replicas → site.number ≡ n → site.pages ≡ g.config.pages → site.store ≡ g.register → modes ≡ g.config.modes → n' ≡ n → old ≡ get_or g.replicas n' old
+    → F (here_among site modes) old ≡ F (here g n) (replica g n)
+among_is F g n n' site modes old within a b c m e o = λ i. F (place_among g n site modes a b c m i) (get_or_read g.replicas n old within (o ∙ ap (λ (k : ℕ). get_or g.replicas k old) e) nobody i)
 
--- the group after a start
-pub start_lifted : (g g' : Group) (n n' : ℕ) (site : Site) (modes : List Mode) (old new : Replica) → n < length g.replicas → site.number ≡ n → site.pages ≡ g.config.pages → site.store ≡ g.register → modes ≡ g.config.modes → n' ≡ n → old ≡ get_or g.replicas n' old
-    → new ≡ (start_part (here_among site modes) old).after → g ≡ g' → record g { replicas = set g.replicas n' new } ≡ (at_node g' n (start_part (here g' n) (replica g' n))).after
-start_lifted g g' n n' site modes old new within a b c m e o step is =
-    (λ i. record g { replicas = set g.replicas (e i) ((step ∙ ap (λ (x : Part). x.after) (start_is g n n' site modes old within a b c m e o)) i) })
-    ∙ ap (λ (out : List Posting). posted n out (with_replica g n (start_part (here g n) (replica g n)).after)) (sym (start_quiet (here g n) (replica g n)))
-    ∙ (λ i. (at_node (is i) n (start_part (here (is i) n) (replica (is i) n))).after)
+-- the group after an event of one node that sends nothing, and asks for the modes
+pub lifted_among : (F : Doing) → IsQuiet F → (g g' : Group) (n n' : ℕ) (site : Site) (modes : List Mode) (old new : Replica) → n < length g.replicas → site.number ≡ n → site.pages ≡ g.config.pages → site.store ≡ g.register → modes ≡ g.config.modes → n' ≡ n → old ≡ get_or g.replicas n' old
+    → new ≡ (F (here_among site modes) old).after → g ≡ g' → record g { replicas = set g.replicas n' new } ≡ (at_node g' n (F (here g' n) (replica g' n))).after
+lifted_among F quiet g g' n n' site modes old new within a b c m e o step is =
+    (λ i. record g { replicas = set g.replicas (e i) ((step ∙ ap (λ (x : Part). x.after) (among_is F g n n' site modes old within a b c m e o)) i) })
+    ∙ ap (λ (out : List Posting). posted n out (with_replica g n (F (here g n) (replica g n)).after)) (sym (quiet (here g n) (replica g n)))
+    ∙ (λ i. (at_node (is i) n (F (here (is i) n) (replica (is i) n))).after)
 
-pub start_told : (g g' : Group) (n n' : ℕ) (site : Site) (modes : List Mode) (old : Replica) (a : Answer) → n < length g.replicas → site.number ≡ n → site.pages ≡ g.config.pages → site.store ≡ g.register → modes ≡ g.config.modes → n' ≡ n → old ≡ get_or g.replicas n' old
-    → a ≡ (start_part (here_among site modes) old).answer → g ≡ g' → a ≡ (at_node g' n (start_part (here g' n) (replica g' n))).answer
-start_told g g' n n' site modes old answer within a b c m e o step is =
-    step ∙ ap (λ (x : Part). x.answer) (start_is g n n' site modes old within a b c m e o) ∙ (λ i. (start_part (here (is i) n) (replica (is i) n)).answer)
+pub told_among : (F : Doing) (g g' : Group) (n n' : ℕ) (site : Site) (modes : List Mode) (old : Replica) (a : Answer) → n < length g.replicas → site.number ≡ n → site.pages ≡ g.config.pages → site.store ≡ g.register → modes ≡ g.config.modes → n' ≡ n → old ≡ get_or g.replicas n' old
+    → a ≡ (F (here_among site modes) old).answer → g ≡ g' → a ≡ (F (here g' n) (replica g' n)).answer
+told_among F g g' n n' site modes old answer within a b c m e o step is =
+    step ∙ ap (λ (x : Part). x.answer) (among_is F g n n' site modes old within a b c m e o) ∙ (λ i. (F (here (is i) n) (replica (is i) n)).answer)
+
+-- the part that the code's node did is the part of the rules
+pub same_part : (F : Doing) → AsksNoModes F → (g g' : Group) (n n' : ℕ) (site : Site) (old : Replica) → n < length g.replicas → site.number ≡ n → site.pages ≡ g.config.pages → site.store ≡ g.register → n' ≡ n → old ≡ get_or g.replicas n' old
+    → g ≡ g' → F (here_at site) old ≡ F (here g' n) (replica g' n)
+same_part F free g g' n n' site old within a b c e o is = part_is F free g n n' site old within a b c e o ∙ (λ i. F (here (is i) n) (replica (is i) n))
+
+-- a part that writes nothing at its node
+pub wrote : (F : Doing) → AsksNoModes F → (g g' : Group) (n n' : ℕ) (site : Site) (old : Replica) → n < length g.replicas → site.number ≡ n → site.pages ≡ g.config.pages → site.store ≡ g.register → n' ≡ n → old ≡ get_or g.replicas n' old
+    → (F (here_at site) old).writes ≡ [] → g ≡ g' → (F (here g' n) (replica g' n)).writes ≡ []
+wrote F free g g' n n' site old within a b c e o none is =
+    sym (ap (λ (x : Part). x.writes) (same_part F free g g' n n' site old within a b c e o is)) ∙ none
+
+-- a `send` and a `lose` write nothing
+
+pub unless_writes : (cs : List Check) (r : Replica) (part : Part) → part.writes ≡ [] → (unless cs r part).writes ≡ []
+unless_writes [] r part h = h
+unless_writes (c ∷ cs) r part h = elim (c.when) as (λ b. (if b then refused c.refusal r else unless cs r part).writes ≡ []) [ true ↦ refl | false ↦ unless_writes cs r part h ]
+
+sends_writes : (r : Replica) (m : ℕ) (last : Option ℕ) → (sends r m last).writes ≡ []
+sends_writes r m None = refl
+sends_writes r m (Some last) = refl
+
+apart_writes : (g : Group) (n m : ℕ) (p : Plan) → p.writes ≡ [] → (apart g n m p).writes ≡ []
+apart_writes g n m p h = elim (n == m) as (λ b. (if b then at_node g n (refused Nothing (replica g n)) else p).writes ≡ []) [ true ↦ refl | false ↦ h ]
+
+pub send_writes : (g : Group) (n m : ℕ) → (apart g n m (at_node g n (send_part (here g n) (replica g n) m (is_full g n m)))).writes ≡ []
+unfolding send_part
+send_writes g n m =
+    apart_writes g n m (at_node g n (send_part (here g n) (replica g n) m (is_full g n m)))
+    (unless_writes (checks_of_send (here g n) (replica g n) m (is_full g n m)) (replica g n) (sends (replica g n) m (block_to_send (replica g n) m)) (sends_writes (replica g n) m (block_to_send (replica g n) m)))
+
+loss_writes : (g : Group) (n m i : ℕ) (found : Option Message) → (plan_of_loss g n m i found).writes ≡ []
+loss_writes g n m i None = refl
+loss_writes g n m i (Some message) = refl
+
+pub lose_writes : (g : Group) (n m i : ℕ) → (apart g n m (plan_of_lose g n m i)).writes ≡ []
+unfolding plan_of_lose
+lose_writes g n m i = apart_writes g n m (plan_of_lose g n m i) (loss_writes g n m i (slice_get (link g n m) (i - 1)))

@@ -3,6 +3,7 @@ pub mod CommandWords
 pub mod Groups
 pub mod InFlight
 pub mod Played
+pub mod Quiet
 pub mod Ran
 pub mod Refusals
 pub mod Scenario

@@ -1,11 +1,12 @@
 //! The group.
-ghost use Rattle.std.specs.Prelude.{◌≡◌, ◌<◌, IfOk, OnOk, length};
+ghost use Rattle.std.specs.Prelude.{◌≡◌, ◌<◌, IfOk, OnOk, length, []};
 ghost use Rattle.ag_rules.specs.Group.{opening};
-ghost use Rattle.ag_rules.specs.Next.{named};
+ghost use Rattle.ag_rules.specs.Next.{named, plan_of};
 ghost use Rattle.ag_rules.specs.Script.{IsConfig, IsEvent, IsWho};
 ghost use Rattle.ag_built.specs.Built.{IsBuilt, HasValues};
 ghost use Rattle.ag_rules.specs.Allowed.{IsAllowed, next};
 ghost use Rattle.ag_group.specs.Refusals.{IsLeft};
+ghost use Rattle.ag_group.specs.Quiet.{WritesNothing};
 
 mod messages;
 mod nodes;
@@ -67,7 +68,7 @@ impl Group {
         })
     }
 
-    /// One event.
+    /// One event, which its suffix may stop in a write, or have a call of its disk fail.
     #[tactic(auto, unfolding(ag_rules::specs::Next::done))]
     pub fn step(&mut self, alloc: Global, event: &Event) -> Result<Answer, NoMemory>
         requires built { IsBuilt event.now }
@@ -80,78 +81,87 @@ impl Group {
         ensures config { OnOk result (self.new.config ≡ self.old.config) }
     {
         match event {
-            Event::Set {
-                node,
-                pairs,
-                suffix: _,
-            } => {
+            Event::Harden { node, suffix } => {
                 let n = self.named(node);
-                let answer = self.set(alloc, n, pairs)?;
-                Ok(answer)
-            }
-            Event::Harden { node, suffix: _ } => {
-                let n = self.named(node);
-                let answer = self.harden(alloc, n)?;
-                Ok(answer)
-            }
-            Event::Send {
-                node,
-                to,
-                suffix: _,
-            } => {
-                let (n, m) = (self.named(node), self.named(to));
-                let answer = self.send(alloc, n, m)?;
+                let answer = self.harden(alloc, n, suffix)?;
                 Ok(answer)
             }
             Event::Deliver {
                 node,
                 to,
                 number,
-                suffix: _,
+                suffix,
             } => {
                 let (n, m) = (self.named(node), self.named(to));
-                let answer = self.deliver(alloc, n, m, *number, false)?;
+                let answer = self.deliver(alloc, n, m, *number, false, suffix)?;
                 Ok(answer)
             }
             Event::Repeat {
                 node,
                 to,
                 number,
-                suffix: _,
+                suffix,
             } => {
                 let (n, m) = (self.named(node), self.named(to));
-                let answer = self.deliver(alloc, n, m, *number, true)?;
+                let answer = self.deliver(alloc, n, m, *number, true, suffix)?;
+                Ok(answer)
+            }
+            Event::Start { node, suffix } => {
+                let n = self.named(node);
+                let answer = self.start(alloc, n, suffix)?;
+                Ok(answer)
+            }
+            _ => {
+                let answer = self.quiet_step(alloc, event)?;
+                Ok(answer)
+            }
+        }
+    }
+
+    /// One event that writes nothing, so that no suffix cuts it.
+    fn quiet_step(&mut self, alloc: Global, event: &Event) -> Result<Answer, NoMemory>
+        requires built { IsBuilt event.now }
+        requires quiet { WritesNothing event.now }
+        requires event { IsEvent self.old.config event.now }
+        requires values { HasValues event.now }
+        ensures answer { IfOk result (λ a. a ≡ (plan_of self.old event.now).answer) }
+        ensures after { OnOk result (self.new ≡ (plan_of self.old event.now).after) }
+        ensures writes { OnOk result ((plan_of self.old event.now).writes ≡ []) }
+        ensures refused { IfOk result (λ a. IsLeft event.now a → self.new ≡ self.old) }
+        ensures config { OnOk result (self.new.config ≡ self.old.config) }
+    {
+        match event {
+            Event::Set { node, pairs, .. } => {
+                let n = self.named(node);
+                let answer = self.set(alloc, n, pairs)?;
+                Ok(answer)
+            }
+            Event::Send { node, to, .. } => {
+                let (n, m) = (self.named(node), self.named(to));
+                let answer = self.send(alloc, n, m)?;
                 Ok(answer)
             }
             Event::Lose {
                 node,
                 to,
                 number,
-                suffix: _,
+                ..
             } => {
                 let (n, m) = (self.named(node), self.named(to));
                 let answer = self.lose(n, m, *number);
                 Ok(answer)
             }
-            Event::Apply {
-                node,
-                stripe,
-                suffix: _,
-            } => {
+            Event::Apply { node, stripe, .. } => {
                 let n = self.named(node);
                 let answer = self.apply(n, *stripe);
                 Ok(answer)
             }
-            Event::Raise {
-                node,
-                stripe,
-                suffix: _,
-            } => {
+            Event::Raise { node, stripe, .. } => {
                 let n = self.named(node);
                 let answer = self.raise(n, *stripe);
                 Ok(answer)
             }
-            Event::Redo { node, suffix: _ } => {
+            Event::Redo { node, .. } => {
                 let n = self.named(node);
                 let answer = self.redo(n);
                 Ok(answer)
@@ -160,23 +170,18 @@ impl Group {
                 node,
                 session,
                 key,
-                suffix: _,
+                ..
             } => {
                 let n = self.named(node);
                 let answer = self.read(alloc, n, *session, *key)?;
                 Ok(answer)
             }
-            Event::Crash { node, suffix: _ } => {
+            Event::Crash { node, .. } => {
                 let n = self.named(node);
                 let answer = self.crash(alloc, n);
                 Ok(answer)
             }
-            Event::Start { node, suffix: _ } => {
-                let n = self.named(node);
-                let answer = self.start(alloc, n)?;
-                Ok(answer)
-            }
-            Event::Status { node, suffix: _ } => {
+            Event::Status { node, .. } => {
                 let n = self.named(node);
                 let answer = self.status(n);
                 Ok(answer)

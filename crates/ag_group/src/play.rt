@@ -26,6 +26,8 @@ use std::alloc::{AllocError, Global};
 #[cfg(test)]
 mod crashes;
 #[cfg(test)]
+mod stops;
+#[cfg(test)]
 mod tests;
 
 /// Plays the scenario that the source has, and writes its transcript to the sink: a header line, and a line for each answer.

@@ -2,7 +2,7 @@
 ghost use Rattle.std.specs.Prelude.{◌↔◌, IsTrue};
 ghost use Rattle.ag_built.specs.Built.{IsBuilt, IsLetter};
 
-use ag_model::event::{Event, Suffix, Who};
+use ag_model::event::{Event, Who};
 
 /// Whether a word is the letter of a replica.
 fn is_letter(who: &Who) -> bool
@@ -19,34 +19,19 @@ pub(crate) fn is_built(event: &Event) -> bool
     ensures { IsTrue result ↔ IsBuilt event.now }
 {
     match event {
-        Event::Set { node, suffix, .. }
-        | Event::Harden { node, suffix }
-        | Event::Apply { node, suffix, .. }
-        | Event::Raise { node, suffix, .. }
-        | Event::Redo { node, suffix }
-        | Event::Read { node, suffix, .. }
-        | Event::Crash { node, suffix }
-        | Event::Start { node, suffix }
-        | Event::Status { node, suffix } => is_letter(node) && *suffix == Suffix::Whole,
-        Event::Send { node, to, suffix }
-        | Event::Deliver {
-            node,
-            to,
-            suffix,
-            ..
-        }
-        | Event::Repeat {
-            node,
-            to,
-            suffix,
-            ..
-        }
-        | Event::Lose {
-            node,
-            to,
-            suffix,
-            ..
-        } => is_letter(node) && is_letter(to) && *suffix == Suffix::Whole,
+        Event::Set { node, .. }
+        | Event::Harden { node, .. }
+        | Event::Apply { node, .. }
+        | Event::Raise { node, .. }
+        | Event::Redo { node, .. }
+        | Event::Read { node, .. }
+        | Event::Crash { node, .. }
+        | Event::Start { node, .. }
+        | Event::Status { node, .. } => is_letter(node),
+        Event::Send { node, to, .. }
+        | Event::Deliver { node, to, .. }
+        | Event::Repeat { node, to, .. }
+        | Event::Lose { node, to, .. } => is_letter(node) && is_letter(to),
         _ => false,
     }
 }

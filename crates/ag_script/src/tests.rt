@@ -58,6 +58,11 @@ fn reads_scripts(rt: HostRuntime) -> Result<(), Fail> {
         ),
         (b"apply B 0\nraise A 15\nredo A\nread A 0 0\n", Ok(4)),
         (b"crash A\nstart A\nstatus B\n", Ok(3)),
+        (
+            b"harden A fail 1\nset A 5 aa stop 1 0\nread B 0 5 fail 3\nsend A B stop 2 ff\n",
+            Ok(4),
+        ),
+        (b"harden A stop 0 0\n", bad(10)),
         (b"\n# a\nharden A\nharden C\nharden C\n", bad(13)),
         (b"harden A", bad(10)),
         (b"harden A\n# a", bad(11)),
@@ -69,8 +74,6 @@ fn reads_scripts(rt: HostRuntime) -> Result<(), Fail> {
         (b"send A @\n", bad(10)),
         (b"flush A\n", bad(10)),
         (b"begin A\n", bad(10)),
-        (b"harden A fail 1\n", bad(10)),
-        (b"set A 5 aa stop 1 0\n", bad(10)),
     ];
     for (text, wanted) in table {
         assert_eq!(rt; count(rt.alloc(), text), wanted, "at {text:?}");

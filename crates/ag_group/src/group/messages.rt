@@ -1,10 +1,11 @@
 //! The events of the links.
-ghost use Rattle.std.specs.Prelude.{◌≡◌, ◌<◌, ◌≤◌, IfOk, OnOk, IfSome, length, ◌-◌, ◌==◌, Some, slice_get, true, false, if◌then◌else◌};
+ghost use Rattle.std.specs.Prelude.{◌≡◌, ◌<◌, ◌≤◌, IfOk, OnOk, IfSome, length, ◌-◌, ◌==◌, ◌||◌, [], Some, slice_get, true, false, if◌then◌else◌};
 ghost use Rattle.std.specs.Option.{is_some};
 ghost use Rattle.ag_rules.specs.Group.{replica, with_replica, is_full, link};
 ghost use Rattle.ag_rules.specs.Plan.{here, at_node, posted};
 ghost use Rattle.ag_rules.specs.SendEvent.{send_part};
 ghost use Rattle.ag_rules.specs.DeliverEvent.{plan_of_deliver, plan_of_lose, message_part, leaves, taken};
+ghost use Rattle.ag_rules.specs.Cut.{cut};
 ghost use Rattle.ag_rules.specs.Next.{apart};
 ghost use Rattle.ag_built.specs.Built.{IsBuiltMessage};
 ghost use Rattle.ag_model.specs.declared.answer.Refusal.{Refusal};
@@ -13,6 +14,7 @@ ghost use Rattle.ag_group.specs.Arrivals.{IsArrival};
 ghost use Rattle.ag_group.specs.Refusals.{leaves_message};
 ghost use Rattle.ag_node.specs.Out.{posting_of};
 ghost use Rattle.ag_node.specs.Sites.{here_at};
+ghost use Rattle.ag_node.specs.Suffixes.{cut_part};
 
 use super::Group;
 use ag_model::answer::{Answer, Refusal};
@@ -40,6 +42,7 @@ impl Group {
         requires to { m < length self.old.config.modes }
         ensures answer { IfOk result (λ a. a ≡ (apart self.old n m (at_node self.old n (send_part (here self.old n) (replica self.old n) m (is_full self.old n m)))).answer) }
         ensures after { OnOk result (self.new ≡ (apart self.old n m (at_node self.old n (send_part (here self.old n) (replica self.old n) m (is_full self.old n m)))).after) }
+        ensures writes { OnOk result ((apart self.old n m (at_node self.old n (send_part (here self.old n) (replica self.old n) m (is_full self.old n m)))).writes ≡ []) }
         ensures config { OnOk result (self.new.config ≡ self.old.config) }
     {
         if n == m {
@@ -103,21 +106,21 @@ impl Group {
         m: u8,
         number: u16,
         repeats: bool,
+        suffix: &Suffix,
     ) -> Result<Answer, NoMemory>
         requires from { n < length self.old.config.modes }
         requires to { m < length self.old.config.modes }
         requires number { 1 ≤ number }
-        ensures answer { IfOk result (λ a. a ≡ (apart self.old n m (plan_of_deliver self.old n m number repeats)).answer) }
-        ensures after { OnOk result (self.new ≡ (apart self.old n m (plan_of_deliver self.old n m number repeats)).after) }
+        ensures answer { IfOk result (λ a. a ≡ (cut suffix.now (apart self.old n m (plan_of_deliver self.old n m number repeats))).answer) }
+        ensures after { OnOk result (self.new ≡ (cut suffix.now (apart self.old n m (plan_of_deliver self.old n m number repeats))).after) }
         ensures refused { IfOk result (λ a. (why : Refusal) → a ≡ Answer.No why → leaves_message why ≡ true → self.new ≡ self.old) }
         ensures config { OnOk result (self.new.config ≡ self.old.config) }
     {
-        let answer = self.deliver_message(alloc, n, m, number, repeats)?;
+        let answer = self.deliver_message(alloc, n, m, number, repeats, suffix)?;
         Ok(answer)
     }
 
     /// The same; each message that may arrive is one of those that are sent so far.
-    #[tactic(auto, unfolding(ag_rules::specs::DeliverEvent::plan_of_deliver))]
     fn deliver_message(
         &mut self,
         alloc: Global,
@@ -125,12 +128,13 @@ impl Group {
         m: u8,
         number: u16,
         repeats: bool,
+        suffix: &Suffix,
     ) -> Result<Answer, NoMemory>
         requires from { n < length self.old.config.modes }
         requires to { m < length self.old.config.modes }
         requires number { 1 ≤ number }
-        ensures answer { IfOk result (λ a. a ≡ (apart self.old n m (plan_of_deliver self.old n m number repeats)).answer) }
-        ensures after { OnOk result (self.new ≡ (apart self.old n m (plan_of_deliver self.old n m number repeats)).after) }
+        ensures answer { IfOk result (λ a. a ≡ (cut suffix.now (apart self.old n m (plan_of_deliver self.old n m number repeats))).answer) }
+        ensures after { OnOk result (self.new ≡ (cut suffix.now (apart self.old n m (plan_of_deliver self.old n m number repeats))).after) }
         ensures built { OnOk result ((message : Message) → (n == m) ≡ false → slice_get (link self.old n m) (number - 1) ≡ Some message → IsBuiltMessage message) }
         ensures config { OnOk result (self.new.config ≡ self.old.config) }
     {
@@ -138,10 +142,11 @@ impl Group {
             return Ok(Answer::No(Refusal::Nothing));
         }
         let full = self.is_full(m, n);
-        let Some((answer, reply)) = self.arrives(alloc, n, m, number, full)? else {
+        let Some((answer, reply)) = self.arrives(alloc, n, m, number, full, suffix)? else {
             return Ok(Answer::No(Refusal::NoMessage { node: n, to: m }));
         };
-        self.take_unless(repeats || leaves(&answer), n, m, number);
+        let stays = stays(repeats, &answer);
+        self.take_unless(stays, n, m, number);
         self.post(alloc, m, n, reply)?;
         Ok(answer)
     }
@@ -154,11 +159,12 @@ impl Group {
         m: u8,
         number: u16,
         full: bool,
+        suffix: &Suffix,
     ) -> Result<Option<(Answer, Option<Message>)>, NoMemory>
         requires from { n < length self.old.config.modes }
         requires to { m < length self.old.config.modes }
         requires number { 1 ≤ number }
-        ensures part { IfOk result (IsArrival self.old self.new n m number full) }
+        ensures part { IfOk result (IsArrival self.old self.new n m number full suffix.now) }
         ensures built { IfOk result (λ found. IfSome found (λ x. IfSome x.1 IsBuiltMessage)) }
         ensures room { IfOk result (λ found. IfSome found (λ x. IfSome x.1 (λ _. full ≡ false))) }
         ensures links { OnOk result (self.new.links ≡ self.old.links) }
@@ -170,7 +176,7 @@ impl Group {
             return Ok(None);
         };
         let node = &mut self.nodes[usize::from(m)];
-        let told = arrive(node, alloc, &site, n, full, &message)?;
+        let told = arrive(node, alloc, &site, n, full, &message, suffix)?;
         Ok(Some(told))
     }
 
@@ -209,6 +215,7 @@ impl Group {
         requires number { 1 ≤ number }
         ensures answer { result ≡ (apart self.old n m (plan_of_lose self.old n m number)).answer }
         ensures after { self.new ≡ (apart self.old n m (plan_of_lose self.old n m number)).after }
+        ensures writes { (apart self.old n m (plan_of_lose self.old n m number)).writes ≡ [] }
         ensures config { self.new.config ≡ self.old.config }
     {
         if n == m {
@@ -233,7 +240,7 @@ impl Group {
 }
 
 /// What a message from a replica, the link back to which may be full, does at a node.
-#[tactic(auto, unfolding(ag_rules::specs::BlockMessage::block_part))]
+#[allow(clippy::too_many_arguments)]
 fn arrive(
     node: &mut Node,
     alloc: Global,
@@ -241,33 +248,34 @@ fn arrive(
     from: u8,
     full: bool,
     message: &Message,
+    suffix: &Suffix,
 ) -> Result<(Answer, Option<Message>), NoMemory>
-    requires { IsBuiltMessage message.now }
-    ensures answer { IfOk result (λ x. x.0 ≡ (message_part (here_at site.now) from node.old full message.now).answer) }
-    ensures out { IfOk result (λ x. posting_of from x.1 ≡ (message_part (here_at site.now) from node.old full message.now).out) }
+    requires built { IsBuiltMessage message.now }
+    ensures answer { IfOk result (λ x. x.0 ≡ (cut_part site.now.pages site.now.number suffix.now node.old (message_part (here_at site.now) from node.old full message.now)).answer) }
+    ensures out { IfOk result (λ x. posting_of from x.1 ≡ (cut_part site.now.pages site.now.number suffix.now node.old (message_part (here_at site.now) from node.old full message.now)).out) }
     ensures built { IfOk result (λ x. IfSome x.1 IsBuiltMessage) }
-    ensures after { OnOk result (node.new ≡ (message_part (here_at site.now) from node.old full message.now).after) }
+    ensures after { OnOk result (node.new ≡ (cut_part site.now.pages site.now.number suffix.now node.old (message_part (here_at site.now) from node.old full message.now)).after) }
+    ensures leaves { IfOk result (λ x. leaves x.0 ≡ leaves (message_part (here_at site.now) from node.old full message.now).answer) }
     ensures pages { length node.new.pages ≡ length node.old.pages }
 {
     if !node.is_up() {
         return Ok((Answer::No(Refusal::Down { node: site.number }), None));
     }
     match &message.body {
-        Body::Block(block) => node.block(
-            alloc,
-            site,
-            from,
-            full,
-            message.term,
-            block,
-            &Suffix::Whole,
-        ),
+        Body::Block(block) => node.block(alloc, site, from, full, message.term, block, suffix),
         Body::Ack { hardened, low } => {
             let answer = node.acknowledge(from, message.term, *hardened, *low);
             Ok((answer, None))
         }
         _ => unreachable!(),
     }
+}
+
+/// Whether a message that is answered so stays in its place, where it may be repeated.
+fn stays(repeats: bool, answer: &Answer) -> bool
+    ensures { result ≡ (repeats || leaves answer.now) }
+{
+    repeats || leaves(answer)
 }
 
 /// Whether a message that is answered so stays in its place.

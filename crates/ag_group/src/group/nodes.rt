@@ -1,9 +1,10 @@
 //! The events of one node.
-ghost use Rattle.std.specs.Prelude.{◌≡◌, ◌<◌, ◌≤◌, IfOk, OnOk, length};
+ghost use Rattle.std.specs.Prelude.{◌≡◌, ◌<◌, ◌≤◌, IfOk, OnOk, length, []};
 ghost use Rattle.std.specs.List.{AllByRecursion};
 ghost use Rattle.ag_built.specs.Built.{IsPair};
 ghost use Rattle.ag_rules.specs.Group.{replica};
 ghost use Rattle.ag_rules.specs.Plan.{here, at_node};
+ghost use Rattle.ag_rules.specs.Cut.{cut};
 ghost use Rattle.ag_rules.specs.SetEvent.{set_part};
 ghost use Rattle.ag_rules.specs.HardenEvent.{harden_part};
 ghost use Rattle.ag_rules.specs.ApplyEvent.{apply_part};
@@ -33,6 +34,7 @@ impl Group {
         requires values { AllByRecursion IsPair pairs.now }
         ensures answer { IfOk result (λ a. a ≡ (at_node self.old n (set_part (here self.old n) (replica self.old n) pairs.now)).answer) }
         ensures after { OnOk result (self.new ≡ (at_node self.old n (set_part (here self.old n) (replica self.old n) pairs.now)).after) }
+        ensures writes { OnOk result ((set_part (here self.old n) (replica self.old n) pairs.now).writes ≡ []) }
         ensures config { OnOk result (self.new.config ≡ self.old.config) }
     {
         let site = self.site(n);
@@ -42,16 +44,20 @@ impl Group {
     }
 
     /// `harden`: the buffer becomes a block.
-    #[tactic(auto, unfolding(ag_rules::specs::HardenEvent::harden_part))]
-    pub(super) fn harden(&mut self, alloc: Global, n: u8) -> Result<Answer, NoMemory>
+    pub(super) fn harden(
+        &mut self,
+        alloc: Global,
+        n: u8,
+        suffix: &Suffix,
+    ) -> Result<Answer, NoMemory>
         requires node { n < length self.old.config.modes }
-        ensures answer { IfOk result (λ a. a ≡ (at_node self.old n (harden_part (here self.old n) (replica self.old n))).answer) }
-        ensures after { OnOk result (self.new ≡ (at_node self.old n (harden_part (here self.old n) (replica self.old n))).after) }
+        ensures answer { IfOk result (λ a. a ≡ (cut suffix.now (at_node self.old n (harden_part (here self.old n) (replica self.old n)))).answer) }
+        ensures after { OnOk result (self.new ≡ (cut suffix.now (at_node self.old n (harden_part (here self.old n) (replica self.old n)))).after) }
         ensures config { OnOk result (self.new.config ≡ self.old.config) }
     {
         let site = self.site(n);
         let node = &mut self.nodes[usize::from(n)];
-        let answer = node.harden(alloc, &site, &Suffix::Whole)?;
+        let answer = node.harden(alloc, &site, suffix)?;
         Ok(answer)
     }
 
@@ -62,6 +68,7 @@ impl Group {
         requires stripe { stripe < 16 }
         ensures answer { result ≡ (at_node self.old n (apply_part (here self.old n) (replica self.old n) stripe)).answer }
         ensures after { self.new ≡ (at_node self.old n (apply_part (here self.old n) (replica self.old n) stripe)).after }
+        ensures writes { (apply_part (here self.old n) (replica self.old n) stripe).writes ≡ [] }
         ensures config { self.new.config ≡ self.old.config }
     {
         let site = self.site(n);
@@ -76,6 +83,7 @@ impl Group {
         requires stripe { stripe < 16 }
         ensures answer { result ≡ (at_node self.old n (raise_part (here self.old n) (replica self.old n) stripe)).answer }
         ensures after { self.new ≡ (at_node self.old n (raise_part (here self.old n) (replica self.old n) stripe)).after }
+        ensures writes { (raise_part (here self.old n) (replica self.old n) stripe).writes ≡ [] }
         ensures config { self.new.config ≡ self.old.config }
     {
         let site = self.site(n);
@@ -89,6 +97,7 @@ impl Group {
         requires node { n < length self.old.config.modes }
         ensures answer { result ≡ (at_node self.old n (redo_part (here self.old n) (replica self.old n))).answer }
         ensures after { self.new ≡ (at_node self.old n (redo_part (here self.old n) (replica self.old n))).after }
+        ensures writes { (redo_part (here self.old n) (replica self.old n)).writes ≡ [] }
         ensures config { self.new.config ≡ self.old.config }
     {
         let site = self.site(n);
@@ -102,6 +111,7 @@ impl Group {
         requires node { n < length self.old.config.modes }
         ensures answer { result ≡ (at_node self.old n (crash_part (here self.old n) (replica self.old n))).answer }
         ensures after { self.new ≡ (at_node self.old n (crash_part (here self.old n) (replica self.old n))).after }
+        ensures writes { (crash_part (here self.old n) (replica self.old n)).writes ≡ [] }
         ensures config { self.new.config ≡ self.old.config }
     {
         let site = self.site(n);
@@ -110,15 +120,20 @@ impl Group {
     }
 
     /// `start`: a node comes up, as primary exactly where the store names it.
-    pub(super) fn start(&mut self, alloc: Global, n: u8) -> Result<Answer, NoMemory>
+    pub(super) fn start(
+        &mut self,
+        alloc: Global,
+        n: u8,
+        suffix: &Suffix,
+    ) -> Result<Answer, NoMemory>
         requires node { n < length self.old.config.modes }
-        ensures answer { IfOk result (λ a. a ≡ (at_node self.old n (start_part (here self.old n) (replica self.old n))).answer) }
-        ensures after { OnOk result (self.new ≡ (at_node self.old n (start_part (here self.old n) (replica self.old n))).after) }
+        ensures answer { IfOk result (λ a. a ≡ (cut suffix.now (at_node self.old n (start_part (here self.old n) (replica self.old n)))).answer) }
+        ensures after { OnOk result (self.new ≡ (cut suffix.now (at_node self.old n (start_part (here self.old n) (replica self.old n)))).after) }
         ensures config { OnOk result (self.new.config ≡ self.old.config) }
     {
         let site = self.site(n);
         let node = &mut self.nodes[usize::from(n)];
-        let answer = node.start(alloc, &site, self.config.modes.as_slice(), &Suffix::Whole)?;
+        let answer = node.start(alloc, &site, self.config.modes.as_slice(), suffix)?;
         Ok(answer)
     }
 
@@ -128,6 +143,7 @@ impl Group {
         requires node { n < length self.now.config.modes }
         ensures answer { result ≡ (at_node self.now n (status_part (here self.now n) (replica self.now n))).answer }
         ensures left { (at_node self.now n (status_part (here self.now n) (replica self.now n))).after ≡ self.now }
+        ensures writes { (status_part (here self.now n) (replica self.now n)).writes ≡ [] }
     {
         let site = self.site(n);
         let node = &self.nodes[usize::from(n)];
@@ -140,6 +156,7 @@ impl Group {
         requires session { s < 64 }
         ensures answer { IfOk result (λ a. a ≡ (at_session self.old n s (read_part (here self.old n) (replica self.old n) (token self.old s) key)).answer) }
         ensures after { OnOk result (self.new ≡ (at_session self.old n s (read_part (here self.old n) (replica self.old n) (token self.old s) key)).after) }
+        ensures writes { OnOk result ((read_part (here self.old n) (replica self.old n) (token self.old s) key).writes ≡ []) }
         ensures config { OnOk result (self.new.config ≡ self.old.config) }
     {
         let site = self.site(n);

@@ -3,13 +3,16 @@ use Rattle.std.specs.Prelude.{slice_get, Option, IfSome}
 use Rattle.std.proofs.lemmas.List.{get_or_read}
 use Rattle.ag_model.specs.declared.message.Message.{Message}
 use Rattle.ag_rules.specs.Group.{Group, link}
-use Rattle.ag_rules.specs.DeliverEvent.{message_part}
+use Rattle.ag_rules.specs.Plan.{Part}
+use Rattle.ag_rules.specs.DeliverEvent.{message_part, leaves}
 use Rattle.ag_built.specs.Built.{IsBuiltMessage}
 use Rattle.ag_node.specs.Out.{posting_of}
 use Rattle.ag_node.specs.Sites.{here_at}
 use Rattle.ag_group.proofs.Replies.{room_by_out, message_full}
 use Rattle.ag_group.specs.contracts.group.Group.{the_view}
-use Rattle.ag_group.proofs.Lifts.{stepped, told, sent, message_free}
+use Rattle.ag_group.proofs.Lifts.{Doing, stepped, told, sent, same_part, message_free}
+use Rattle.ag_group.proofs.Cuts.{cut_doing, cut_free, cut_out}
+use Rattle.ag_node.specs.Suffixes.{cut_part}
 use Rattle.ag_group.proofs.group.Group.arrives.Goals as goal
 
 pub returns-clause-part : goal.returns-clause-part
@@ -21,18 +24,22 @@ returns-clause-part c =
     let row : c.args.n < length c.self.inside.links.items = omega (arith, c.self.invariant.rows, c.requires.from, ap (λ (g : Group). length g.config.modes) c.self.view_is) in
     let at_n : c.index-links.result.now ≡ get_or g.links c.args.n [] = get_or_read g.links c.args.n c.index-links.result.now row (c.index-links.ensures ∙ ap (λ (k : ℕ). get_or g.links k c.index-links.result.now) c.from.ensures) [] in
     let link_is : get_or c.index-links.result.now c.args.m [] ≡ link c.args.self.now c.args.n c.args.m = ap (λ (x : List (List Message)). get_or x c.args.m []) at_n ∙ ap (λ (g : Group). link g c.args.n c.args.m) c.self.view_is in
-    let free = message_free c.args.n c.args.full message built.0 in (
+    let F : Doing = λ h r. message_part h c.args.n r c.args.full message in
+    let free = cut_free c.args.suffix.now F (message_free c.args.n c.args.full message built.0) in (
       message,
       sym (ap (λ (x : List Message). slice_get x (c.args.number - 1)) link_is) ∙ sym c.in_ok-message.ensures.found ∙ c.in-Some.is,
       built,
       record {
-        answered = told (λ h r. message_part h c.args.n r c.args.full message) free g c.args.self.now c.args.m c.from-2.result c.site-site.result c.index_mut-node.result.now c.in_ok-told.told.0 within
+        answered = told (cut_doing c.args.suffix.now F) free g c.args.self.now c.args.m c.from-2.result c.site-site.result c.index_mut-node.result.now c.in_ok-told.told.0 within
             c.site-site.ensures.number (c.site-site.ensures.pages ∙ ap (λ (g : Group). g.config.pages) (sym c.self.view_is)) (c.site-site.ensures.store ∙ ap (λ (g : Group). g.register) (sym c.self.view_is)) c.from-2.ensures c.index_mut-node.ensures.value c.in_ok-told.ensures.answer c.self.view_is;
-        replied = sent (λ h r. message_part h c.args.n r c.args.full message) free g c.args.self.now c.args.m c.from-2.result c.site-site.result c.index_mut-node.result.now (posting_of c.args.n c.in_ok-told.told.1) within
+        replied = sent (cut_doing c.args.suffix.now F) free g c.args.self.now c.args.m c.from-2.result c.site-site.result c.index_mut-node.result.now (posting_of c.args.n c.in_ok-told.told.1) within
             c.site-site.ensures.number (c.site-site.ensures.pages ∙ ap (λ (g : Group). g.config.pages) (sym c.self.view_is)) (c.site-site.ensures.store ∙ ap (λ (g : Group). g.register) (sym c.self.view_is)) c.from-2.ensures c.index_mut-node.ensures.value c.in_ok-told.ensures.out c.self.view_is;
-        left = stepped (λ h r. message_part h c.args.n r c.args.full message) free g c.args.self.now c.args.m c.from-2.result c.site-site.result c.index_mut-node.result.now c.arrive.new.node within
+        left = stepped (cut_doing c.args.suffix.now F) free g c.args.self.now c.args.m c.from-2.result c.site-site.result c.index_mut-node.result.now c.arrive.new.node within
             c.site-site.ensures.number (c.site-site.ensures.pages ∙ ap (λ (g : Group). g.config.pages) (sym c.self.view_is)) (c.site-site.ensures.store ∙ ap (λ (g : Group). g.register) (sym c.self.view_is)) c.from-2.ensures c.index_mut-node.ensures.value c.in_ok-told.ensures.after c.self.view_is;
       },
+      c.in_ok-told.ensures.leaves
+          ∙ ap (λ (x : Part). leaves x.answer) (same_part F (message_free c.args.n c.args.full message built.0) g c.args.self.now c.args.m c.from-2.result c.site-site.result c.index_mut-node.result.now within
+          c.site-site.ensures.number (c.site-site.ensures.pages ∙ ap (λ (g : Group). g.config.pages) (sym c.self.view_is)) (c.site-site.ensures.store ∙ ap (λ (g : Group). g.register) (sym c.self.view_is)) c.from-2.ensures c.index_mut-node.ensures.value c.self.view_is),
     )
 
 pub returns-clause-room : goal.returns-clause-room
@@ -41,5 +48,5 @@ returns-clause-room c =
     let built : IsBuiltMessage message = subst (λ (o : Option Message). IfSome o IsBuiltMessage) c.in-Some.is c.in_ok-message.ensures.built in
     let h = here_at c.site-site.result in
     let r = c.index_mut-node.result.now in
-    room_by_out c.args.n c.in_ok-told.told.1 c.args.full (message_part h c.args.n r c.args.full message).out c.in_ok-told.ensures.out
-    (λ e. ap (λ b. (message_part h c.args.n r b message).out) e ∙ message_full h c.args.n r message built.0)
+    room_by_out c.args.n c.in_ok-told.told.1 c.args.full (cut_part h.pages h.number c.args.suffix.now r (message_part h c.args.n r c.args.full message)).out c.in_ok-told.ensures.out
+    (λ e. cut_out c.args.suffix.now h.pages h.number r (message_part h c.args.n r c.args.full message) (ap (λ b. (message_part h c.args.n r b message).out) e ∙ message_full h c.args.n r message built.0))

@@ -1,7 +1,14 @@
-use Rattle.std.proofs.Common.{◌≡◌, List, [], length, get_or, false, sym, ap, ◌∙◌, subst}
-use Rattle.std.specs.Prelude.{Option, IfSome, nat_le}
+use Rattle.std.proofs.Common.{◌≡◌, List, [], length, get_or, Bool, false, sym, ap, ◌∙◌, subst, ne_eqb}
+use Rattle.std.specs.Prelude.{Option, Some, None, IfSome, nat_le, if◌then◌else◌}
 use Rattle.ag_model.specs.declared.answer.Answer.{Answer}
 use Rattle.ag_model.specs.declared.message.Message.{Message}
+use Rattle.ag_model.specs.declared.event.Suffix.{Suffix}
+use Rattle.ag_rules.specs.Group.{Group, replica, with_replica, is_full}
+use Rattle.ag_rules.specs.Plan.{Part, here, posted}
+use Rattle.ag_rules.specs.DeliverEvent.{message_part, leaves, taken}
+use Rattle.ag_node.specs.Out.{posting_of}
+use Rattle.ag_group.specs.Arrivals.{IsArrival, cut_arrival}
+use Rattle.ag_group.proofs.Cuts.{none_answer, none_after, some_answer, some_after}
 use Rattle.ag_group.proofs.Replies.{same_room}
 use Rattle.ag_group.proofs.group.Group.deliver_message.Goals as goal
 
@@ -13,3 +20,38 @@ post-requires-clause-room c =
     (c.take_unless.ensures.back
     ∙ ap (λ (links : List (List (List Message))). nat_le 1024 (length (get_or (get_or links c.args.m []) c.args.n []))) c.in_ok-answer.ensures.links
     ∙ sym c.is_full-full.ensures)
+
+pub returns-in_default-clause-answer : goal.returns-in_default-clause-answer
+returns-in_default-clause-answer c =
+    none_answer c.args.suffix.now c.args.self.now c.args.n c.args.m c.args.number c.args.repeats (ne_eqb c.args.n c.args.m c.if-n-m.false)
+    (subst (λ (found : Option (Answer × Option Message)). IsArrival c.args.self.now c.arrives.new.self c.args.n c.args.m c.args.number c.is_full-full.result c.args.suffix.now found) c.in_default.is c.in_ok-answer.ensures.part).0
+
+pub returns-in_default-clause-after : goal.returns-in_default-clause-after
+returns-in_default-clause-after c =
+    let none : IsArrival c.args.self.now c.arrives.new.self c.args.n c.args.m c.args.number c.is_full-full.result c.args.suffix.now None
+    = subst (λ (found : Option (Answer × Option Message)). IsArrival c.args.self.now c.arrives.new.self c.args.n c.args.m c.args.number c.is_full-full.result c.args.suffix.now found) c.in_default.is c.in_ok-answer.ensures.part in
+    none.1 ∙ none_after c.args.suffix.now c.args.self.now c.args.n c.args.m c.args.number c.args.repeats (ne_eqb c.args.n c.args.m c.if-n-m.false) none.0
+
+pub returns-clause-answer : goal.returns-clause-answer
+returns-clause-answer c =
+    let g : Group = c.args.self.now in
+    let found : IsArrival g c.arrives.new.self c.args.n c.args.m c.args.number c.is_full-full.result c.args.suffix.now (Some (c.in-Some.answer, c.in-Some.reply))
+    = subst (λ (found : Option (Answer × Option Message)). IsArrival g c.arrives.new.self c.args.n c.args.m c.args.number c.is_full-full.result c.args.suffix.now found) c.in-Some.is c.in_ok-answer.ensures.part in
+    found.3.answered ∙ ap (λ (b : Bool). (cut_arrival g c.args.n c.args.m b c.args.suffix.now found.0).answer) c.is_full-full.ensures
+    ∙ some_answer c.args.suffix.now g c.args.n c.args.m c.args.number c.args.repeats found.0 (ne_eqb c.args.n c.args.m c.if-n-m.false) found.1
+
+pub returns-clause-after : goal.returns-clause-after
+returns-clause-after c =
+    let g : Group = c.args.self.now in
+    let s : Suffix = c.args.suffix.now in
+    let found : IsArrival g c.arrives.new.self c.args.n c.args.m c.args.number c.is_full-full.result s (Some (c.in-Some.answer, c.in-Some.reply))
+    = subst (λ (found : Option (Answer × Option Message)). IsArrival g c.arrives.new.self c.args.n c.args.m c.args.number c.is_full-full.result s found) c.in-Some.is c.in_ok-answer.ensures.part in
+    let full : c.is_full-full.result ≡ is_full g c.args.m c.args.n = c.is_full-full.ensures in
+    let part : Bool → Part = λ b. cut_arrival g c.args.n c.args.m b s found.0 in
+    let there : leaves c.in-Some.answer ≡ leaves (message_part (here g c.args.m) c.args.n (replica g c.args.m) (is_full g c.args.m c.args.n) found.0).answer
+    = found.4 ∙ ap (λ (b : Bool). leaves (message_part (here g c.args.m) c.args.n (replica g c.args.m) b found.0).answer) full in
+    let left : c.arrives.new.self ≡ with_replica g c.args.m (part (is_full g c.args.m c.args.n)).after = found.3.left ∙ ap (λ (b : Bool). with_replica g c.args.m (part b).after) full in
+    let sent : posting_of c.args.n c.in-Some.reply ≡ (part (is_full g c.args.m c.args.n)).out = found.3.replied ∙ ap (λ (b : Bool). (part b).out) full in
+    c.in_ok-post.ensures.after ∙ ap (posted c.args.m (posting_of c.args.n c.in-Some.reply)) c.take_unless.ensures.after
+    ∙ (λ i. posted c.args.m (sent i) (if c.stays-stays.ensures i then left i else taken (left i) c.args.n c.args.m c.args.number))
+    ∙ some_after s g c.args.n c.args.m c.args.number c.args.repeats (leaves c.in-Some.answer) found.0 (ne_eqb c.args.n c.args.m c.if-n-m.false) found.1 there

@@ -1,8 +1,11 @@
 use Rattle.std.proofs.Common.{◌≡◌, ◌<◌, length, sym, ap, ◌∙◌, arith}
 use Rattle.ag_model.specs.declared.config.Register.{Register}
-use Rattle.ag_rules.specs.Group.{Group}
+use Rattle.ag_rules.specs.Group.{Group, replica}
+use Rattle.ag_rules.specs.Plan.{here}
+use Rattle.ag_rules.specs.StartEvent.{start_part}
 use Rattle.ag_group.specs.contracts.group.Group.{the_view}
-use Rattle.ag_group.proofs.Lifts.{start_lifted, start_told}
+use Rattle.ag_group.proofs.Lifts.{lifted_among, told_among, start_quiet}
+use Rattle.ag_group.proofs.Cuts.{cut_doing, cut_quiet, cut_answer, cut_after}
 use Rattle.ag_group.proofs.group.Group.start.Goals as goal
 
 pub start-requires-clause-term : goal.start-requires-clause-term
@@ -11,11 +14,13 @@ start-requires-clause-term c = ap (λ (x : Register). x.term) c.site-site.ensure
 pub returns-clause-answer : goal.returns-clause-answer
 returns-clause-answer c =
     let within : c.args.n < length c.self.inside.nodes.items = omega (arith, c.self.invariant.each, c.requires.node, ap (λ (g : Group). length g.config.modes) c.self.view_is) in
-    start_told (the_view c.self.inside) c.args.self.now c.args.n c.from.result c.site-site.result c.as_slice.result.now c.index_mut-node.result.now c.in_ok-answer.answer within
+    told_among (cut_doing c.args.suffix.now start_part) (the_view c.self.inside) c.args.self.now c.args.n c.from.result c.site-site.result c.as_slice.result.now c.index_mut-node.result.now c.in_ok-answer.answer within
     c.site-site.ensures.number (c.site-site.ensures.pages ∙ ap (λ (g : Group). g.config.pages) (sym c.self.view_is)) (c.site-site.ensures.store ∙ ap (λ (g : Group). g.register) (sym c.self.view_is)) c.as_slice.ensures c.from.ensures c.index_mut-node.ensures.value c.in_ok-answer.ensures.answer c.self.view_is
+    ∙ sym (cut_answer c.args.suffix.now c.args.self.now c.args.n (start_part (here c.args.self.now c.args.n) (replica c.args.self.now c.args.n)))
 
 pub returns-clause-after : goal.returns-clause-after
 returns-clause-after c =
     let within : c.args.n < length c.self.inside.nodes.items = omega (arith, c.self.invariant.each, c.requires.node, ap (λ (g : Group). length g.config.modes) c.self.view_is) in
-    start_lifted (the_view c.self.inside) c.args.self.now c.args.n c.from.result c.site-site.result c.as_slice.result.now c.index_mut-node.result.now c.start.new.self within
+    lifted_among (cut_doing c.args.suffix.now start_part) (cut_quiet c.args.suffix.now start_part start_quiet) (the_view c.self.inside) c.args.self.now c.args.n c.from.result c.site-site.result c.as_slice.result.now c.index_mut-node.result.now c.start.new.self within
     c.site-site.ensures.number (c.site-site.ensures.pages ∙ ap (λ (g : Group). g.config.pages) (sym c.self.view_is)) (c.site-site.ensures.store ∙ ap (λ (g : Group). g.register) (sym c.self.view_is)) c.as_slice.ensures c.from.ensures c.index_mut-node.ensures.value c.in_ok-answer.ensures.after c.self.view_is
+    ∙ sym (cut_after c.args.suffix.now c.args.self.now c.args.n (start_part (here c.args.self.now c.args.n) (replica c.args.self.now c.args.n)))

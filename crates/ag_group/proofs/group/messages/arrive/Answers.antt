@@ -1,13 +1,24 @@
-use Rattle.std.proofs.Common.{◌∷◌, [], sym, ap, ◌∙◌}
-use Rattle.ag_model.specs.declared.message.Body.{Body}
-use Rattle.ag_rules.specs.Plan.{unless}
-use Rattle.ag_rules.specs.Checks.{is_down}
-use Rattle.ag_rules.specs.DeliverEvent.{arrives}
+use Rattle.std.proofs.Common.{◌≡◌, [], true, sym, ap, ◌∙◌}
+use Rattle.ag_rules.specs.Plan.{Part}
+use Rattle.ag_rules.specs.AckMessage.{ack_message_part}
 use Rattle.ag_node.specs.Sites.{here_at}
-use Rattle.ag_group.proofs.Lifts.{ack_quiet}
+use Rattle.ag_node.specs.Suffixes.{cut_part}
+use Rattle.ag_rules.specs.DeliverEvent.{message_part}
+use Rattle.ag_group.proofs.Cuts.{ack_cut, ack_out}
 use Rattle.ag_group.proofs.group.messages.arrive.Goals as goal
+
+pub returns-in-Ack-clause-answer : goal.returns-in-Ack-clause-answer
+returns-in-Ack-clause-answer c =
+    let up : c.args.node.now.up ≡ true = sym c.is_up.ensures ∙ c.if-not-is_up.false in
+    c.acknowledge-answer.ensures.answer ∙ ap (λ (x : Part). x.answer) (ack_cut c.args.suffix.now (here_at c.args.site.now) c.args.from c.args.node.now c.args.full c.args.message.now c.in-Ack.hardened c.in-Ack.low up c.in-Ack.is)
+
+pub returns-in-Ack-clause-after : goal.returns-in-Ack-clause-after
+returns-in-Ack-clause-after c =
+    let up : c.args.node.now.up ≡ true = sym c.is_up.ensures ∙ c.if-not-is_up.false in
+    c.acknowledge-answer.ensures.after ∙ ap (λ (x : Part). x.after) (ack_cut c.args.suffix.now (here_at c.args.site.now) c.args.from c.args.node.now c.args.full c.args.message.now c.in-Ack.hardened c.in-Ack.low up c.in-Ack.is)
 
 pub returns-in-Ack-clause-out : goal.returns-in-Ack-clause-out
 returns-in-Ack-clause-out c =
-    sym (ap (λ (b : Body). (unless (is_down (here_at c.args.site.now) c.args.node.now ∷ []) c.args.node.now (arrives (here_at c.args.site.now) c.args.from c.args.node.now c.args.full c.args.message.now.term b)).out) c.in-Ack.is
-    ∙ ack_quiet (here_at c.args.site.now) c.args.from c.args.node.now c.args.full c.args.message.now.term c.in-Ack.hardened c.in-Ack.low)
+    let up : c.args.node.now.up ≡ true = sym c.is_up.ensures ∙ c.if-not-is_up.false in
+    sym (ack_out c.args.from c.args.node.now c.args.message.now.term c.in-Ack.hardened c.in-Ack.low)
+    ∙ ap (λ (x : Part). x.out) (ack_cut c.args.suffix.now (here_at c.args.site.now) c.args.from c.args.node.now c.args.full c.args.message.now c.in-Ack.hardened c.in-Ack.low up c.in-Ack.is)
