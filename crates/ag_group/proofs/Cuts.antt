@@ -1,24 +1,21 @@
 -- Plans that a suffix may cut.
-use Rattle.std.proofs.Common.{◌≡◌, ℕ, ◌+◌, ◌-◌, List, [], ◌∷◌, length, set, get_or, Bool, true, false, refl, sym, ap, ◌∙◌}
+use Rattle.std.proofs.Common.{◌≡◌, ℕ, ◌+◌, ◌-◌, List, [], length, Bool, true, false, refl, sym, ap, ◌∙◌}
 use Rattle.std.specs.Prelude.{Option, Some, None, slice_get, max, nat_lt, not, ◌==◌, ◌||◌, if◌then◌else◌}
 use Rattle.std.specs.List.{sum_by}
 use Rattle.std.proofs.lemmas.List.{set-get_or}
 use Rattle.ag_model.specs.declared.event.Event.{Event}
 use Rattle.ag_model.specs.declared.event.Suffix.{Suffix}
 use Rattle.ag_model.specs.declared.event.Suffix.TheVariants.{Whole, Stop, Fail}
-use Rattle.ag_model.specs.declared.answer.Answer.{Answer}
 use Rattle.ag_model.specs.declared.answer.Answer.TheVariants.{No, Known}
 use Rattle.ag_model.specs.declared.answer.Refusal.{Refusal}
 use Rattle.ag_model.specs.declared.answer.Refusal.TheVariants.{Nothing, NoMessage, Down}
 use Rattle.ag_model.specs.declared.message.Message.{Message}
 use Rattle.ag_model.specs.declared.message.Body.{Body}
-use Rattle.ag_model.specs.declared.message.Body.TheVariants.{Block as BlockBody, Ack}
-use Rattle.ag_model.specs.declared.message.Block.{Block}
+use Rattle.ag_model.specs.declared.message.Body.TheVariants.{Ack}
 use Rattle.ag_rules.specs.Replica.{Replica, peer, with_peer}
 use Rattle.ag_rules.specs.Group.{Group, replica, nobody, with_replica, link, is_full}
-use Rattle.ag_rules.specs.Plan.{Part, Plan, Posting, Batch, Here, here, at_node, at_once, posted, refused}
+use Rattle.ag_rules.specs.Plan.{Part, Plan, Batch, Here, here, at_node, at_once, posted, refused}
 use Rattle.ag_rules.specs.Cut.{cut, all_writes, stopped, stopped_disk, failed, disk_before}
-use Rattle.ag_rules.specs.BlockMessage.{block_part}
 use Rattle.ag_rules.specs.AckMessage.{ack_message_part, checks_of_ack_message, known_peer}
 use Rattle.ag_rules.specs.DeliverEvent.{message_part, arrives, leaves, taken, delivered, plan_of_message, plan_of_deliver}
 use Rattle.ag_rules.specs.Next.{apart, plan_of, suffix_of, done}

@@ -1,5 +1,5 @@
 -- An event of one node, as an event of the group.
-use Rattle.std.proofs.Common.{◌≡◌, ℕ, zero, suc, ◌+◌, ◌<◌, List, [], ◌∷◌, ◌++◌, length, get_or, set, Bool, true, false, not, refl, sym, ap, ◌∙◌, subst, arith}
+use Rattle.std.proofs.Common.{◌≡◌, ℕ, ◌+◌, ◌<◌, List, [], ◌∷◌, ◌++◌, length, get_or, set, Bool, true, false, not, refl, sym, ap, ◌∙◌}
 use Rattle.std.specs.Prelude.{Option, Some, None, slice_get, if◌then◌else◌, ◌-◌, ◌==◌}
 use Rattle.std.proofs.lemmas.List.{get_or_read, set-get_or}
 use Rattle.ag_model.specs.declared.config.Token.{Token}
@@ -33,14 +33,13 @@ use Rattle.ag_model.specs.declared.message.Body.TheVariants.{Block, Ack}
 use Rattle.ag_rules.specs.Checks.{is_down}
 use Rattle.ag_rules.specs.SendEvent.{send_part, sends, checks_of_send, block_to_send}
 use Rattle.ag_rules.specs.BlockMessage.{block_part}
-use Rattle.ag_rules.specs.DeliverEvent.{message_part, arrives, taken, plan_of_lose, plan_of_loss}
+use Rattle.ag_rules.specs.DeliverEvent.{message_part, arrives, plan_of_lose, plan_of_loss}
 use Rattle.std.specs.Prelude.{max}
-use Rattle.std.specs.List.{AllByRecursion}
 use Rattle.ag_model.specs.declared.answer.Answer.TheVariants.{Known, Raised}
 use Rattle.ag_rules.specs.Replica.{peer, with_peer}
 use Rattle.ag_rules.specs.AckMessage.{ack_message_part, checks_of_ack_message, known_peer}
 use Rattle.ag_built.specs.Built.{IsBuiltBody}
-use Rattle.ag_rules.specs.Next.{apart, at_session, with_token, token_after, token, session_of}
+use Rattle.ag_rules.specs.Next.{apart, at_session, with_token, token_after, session_of}
 use Rattle.ag_node.specs.declared.site.Site.{Site}
 use Rattle.ag_node.specs.Sites.{here_at, here_among}
 

@@ -1,25 +1,21 @@
 -- A refused event leaves the group as it was.
-use Rattle.std.proofs.Common.{◌≡◌, ℕ, ◌+◌, ◌-◌, List, [], ◌∷◌, ◌++◌, length, Bool, true, false, refl, sym, ap, ◌∙◌, subst}
-use Rattle.std.specs.Prelude.{max, Option, Some, None, slice_get, if◌then◌else◌, ◌==◌, ◌&&◌, not}
+use Rattle.std.proofs.Common.{◌≡◌, ℕ, ◌+◌, ◌-◌, List, [], ◌∷◌, ◌++◌, length, Bool, true, false, refl, sym, ap, ◌∙◌}
+use Rattle.std.specs.Prelude.{max, Option, Some, None, slice_get, if◌then◌else◌, ◌==◌, not}
 use Rattle.std.proofs.lemmas.List.{set-get_or}
 use Rattle.ag_model.specs.declared.value.Row.{Row}
 use Rattle.ag_model.specs.declared.value.Row.TheVariants.{Found, Absent}
 use Rattle.ag_model.specs.declared.config.Token.{Token}
 use Rattle.ag_model.specs.declared.event.Pair.{Pair}
-use Rattle.ag_model.specs.declared.event.Who.{Who}
-use Rattle.ag_model.specs.declared.event.Suffix.{Suffix}
-use Rattle.ag_model.specs.declared.event.Suffix.TheVariants.{Whole}
 use Rattle.ag_model.specs.declared.event.Event.{Event}
-use Rattle.ag_model.specs.declared.event.Event.TheVariants.{Set, Harden, Send, Deliver, Redo, Read}
 use Rattle.ag_model.specs.declared.message.Message.{Message}
 use Rattle.ag_model.specs.declared.message.Body.{Body}
 use Rattle.ag_model.specs.declared.message.Body.TheVariants.{Block as BlockBody, Ack}
 use Rattle.ag_model.specs.declared.message.Block.{Block}
 use Rattle.ag_model.specs.declared.record.Record.{Record}
 use Rattle.ag_model.specs.declared.answer.Answer.{Answer}
-use Rattle.ag_model.specs.declared.answer.Answer.TheVariants.{No, Crashed, Lsn, Sent, Known, Hardened, Raised, Lost}
+use Rattle.ag_model.specs.declared.answer.Answer.TheVariants.{No, Crashed, Lsn, Known, Hardened, Raised}
 use Rattle.ag_model.specs.declared.answer.Refusal.{Refusal}
-use Rattle.ag_model.specs.declared.answer.Refusal.TheVariants.{Unreadable, Torn, NotNoted, Down, Nothing, Pending, NoMessage, Gap, LinkFull, LogFull}
+use Rattle.ag_model.specs.declared.answer.Refusal.TheVariants.{Unreadable, Torn, NotNoted, Down, Nothing, Pending, Gap, LinkFull}
 use Rattle.ag_model.specs.Cells.{has_lost}
 use Rattle.ag_model.specs.Rows.{page_of, rows}
 use Rattle.ag_rules.specs.Replica.{Replica, fallen, is_reverting, stripe, image, records, front, full_end, effective, page_value, end, peer, with_peer}
@@ -42,8 +38,8 @@ use Rattle.ag_rules.specs.SendEvent.{send_part, sends, checks_of_send, block_to_
 use Rattle.ag_rules.specs.BlockMessage.{block_part, cases_of_block, acks}
 use Rattle.ag_rules.specs.AckMessage.{ack_message_part, checks_of_ack_message, known_peer}
 use Rattle.ag_rules.specs.DeliverEvent.{message_part, arrives, taken, leaves, refusal_leaves, plan_of_deliver, plan_of_message, plan_of_lose, plan_of_loss}
-use Rattle.ag_rules.specs.Next.{named, apart, at_session, token, token_after, session_of, with_token, plan_of, done}
-use Rattle.ag_built.specs.Built.{IsBuilt, IsBuiltBody}
+use Rattle.ag_rules.specs.Next.{apart, at_session, token, with_token}
+use Rattle.ag_built.specs.Built.{IsBuiltBody}
 use Rattle.ag_group.specs.Refusals.{leaves_node, leaves_message, leaves_group, IsLeft}
 
 -- where a part is refused so, it leaves its node and sends nothing

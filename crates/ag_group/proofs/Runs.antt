@@ -1,7 +1,7 @@
 -- A run that goes on by an event, and what is written of it.
-use Rattle.std.proofs.Common.{◌≡◌, ℕ, ◌+◌, ◌<◌, ◌≤◌, List, [], ◌∷◌, ◌++◌, length, take, get_or, Option, Some, None, refl, sym, ap, subst, ◌∙◌, append_assoc, arith, map, zero, suc}
+use Rattle.std.proofs.Common.{◌≡◌, ℕ, ◌+◌, ◌<◌, ◌≤◌, List, [], ◌∷◌, ◌++◌, length, take, get_or, Option, refl, sym, ap, subst, ◌∙◌, append_assoc, arith, map, zero, suc}
 use Rattle.std.specs.List.{flat_map, AllByRecursion}
-use Rattle.std.specs.Io.KnownBytes.{Appends, Keeps}
+use Rattle.std.specs.Io.KnownBytes.{Appends}
 use Rattle.std.proofs.lemmas.List.{append-nil, take_more, take_all}
 use Rattle.std.proofs.lemmas.List.Concat.{flat_map-cons}
 use Rattle.std.proofs.lemmas.Grind.{flat_map-append}
@@ -13,7 +13,7 @@ use Rattle.ag_model.specs.declared.answer.Answer.{Answer}
 use Rattle.ag_rules.specs.Group.{Group, opening}
 use Rattle.ag_rules.specs.Allowed.{IsAllowed, next}
 use Rattle.ag_rules.specs.Next.{done}
-use Rattle.ag_rules.specs.Run.{moments_from, answers_of, Lawful}
+use Rattle.ag_rules.specs.Run.{moments_from, answers_of}
 use Rattle.ag_transcript.specs.Transcript.{header_text, line, transcript}
 use Rattle.ag_transcript.specs.Answers.{answer_text}
 use Rattle.ag_group.specs.Ran.{HasRun, HasRunInPart}

@@ -1,5 +1,5 @@
 -- A scenario, and the outcome of reading it.
-use Rattle.std.proofs.Common.{◌≡◌, ℕ, ◌+◌, ◌<◌, ◌≤◌, List, ◌++◌, Option, Some, None, refl, sym, ap, subst, ◌∙◌, arith, length, ◌⊎◌, inl, inr}
+use Rattle.std.proofs.Common.{◌≡◌, ℕ, ◌+◌, ◌<◌, ◌≤◌, List, ◌++◌, Option, Some, None, sym, ap, subst, ◌∙◌, arith, length, ◌⊎◌, inl, inr}
 use Rattle.std.specs.Prelude.{IfSome, codes, ◌∷◌, []}
 use Rattle.ag_model.specs.declared.config.Config.{Config}
 use Rattle.ag_model.specs.declared.event.Event.{Event}

@@ -3,7 +3,6 @@ use Rattle.std.specs.Prelude.{◌≡◌, ℕ, ◌<◌, List, length}
 use Rattle.std.specs.List.{AllByRecursion}
 use Rattle.ag_model.specs.declared.config.Config.{Config}
 use Rattle.ag_model.specs.declared.config.Register.{Register}
-use Rattle.ag_model.specs.declared.config.Token.{Token}
 use Rattle.ag_model.specs.declared.message.Message.{Message}
 use Rattle.ag_rules.specs.Script.{IsConfig}
 use Rattle.ag_rules.specs.Replica.{Replica}

@@ -220,7 +220,9 @@ impl Committed {
                 }
             }
             Does::Hardens => {
-                if answer.starts_with(b"hardened ") || answer == b"stopped 1 step=1 torn=-".as_slice() {
+                if answer.starts_with(b"hardened ")
+                    || answer == b"stopped 1 step=1 torn=-".as_slice()
+                {
                     self.hardened.extend_from_slice(self.buffer.as_slice())?;
                     self.buffer.clear();
                 }

@@ -1,7 +1,5 @@
-use Rattle.std.proofs.Common.{◌≡◌, ◌+◌, ◌∷◌, ◌++◌, [], ℕ, List, sym, ap, ◌∙◌, arith, refl, true, false}
-use Rattle.std.specs.Io.KnownBytes.{Appends}
-use Rattle.ag_outside.specs.Streams.{AppendsFront}
-use Rattle.ag_group.proofs.Runs.{SoFar, not_begun, header_cut, SoFar-start, SoFar-part, SoFar-event, SoFar-end, event_cut}
+use Rattle.std.proofs.Common.{◌∙◌, arith}
+use Rattle.ag_group.proofs.Runs.{not_begun, header_cut, SoFar-start, SoFar-part, SoFar-event, SoFar-end, event_cut}
 use Rattle.ag_group.proofs.events.run_events.Goals as goal
 
 pub returns-in_default-clause-part : goal.returns-in_default-clause-part

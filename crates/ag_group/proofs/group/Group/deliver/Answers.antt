@@ -1,4 +1,4 @@
-use Rattle.std.proofs.Common.{◌≡◌, sym, ◌∙◌}
+use Rattle.std.proofs.Common.{sym, ◌∙◌}
 use Rattle.ag_rules.specs.DeliverEvent.{plan_of_deliver}
 use Rattle.ag_rules.specs.Next.{apart}
 use Rattle.ag_group.proofs.Cuts.{cut_left}

@@ -1,4 +1,4 @@
-use Rattle.std.proofs.Common.{◌≡◌, ap}
+use Rattle.std.proofs.Common.{ap}
 use Rattle.ag_model.specs.declared.event.Event.{Event}
 use Rattle.ag_rules.specs.Group.{Group, replica, is_full}
 use Rattle.ag_rules.specs.Plan.{here, at_node}

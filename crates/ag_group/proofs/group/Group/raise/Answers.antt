@@ -1,4 +1,4 @@
-use Rattle.std.proofs.Common.{◌≡◌, ◌<◌, length, sym, ap, ◌∙◌, arith}
+use Rattle.std.proofs.Common.{◌<◌, length, sym, ap, ◌∙◌, arith}
 use Rattle.ag_rules.specs.Group.{Group}
 use Rattle.ag_group.specs.contracts.group.Group.{the_view}
 use Rattle.ag_group.proofs.Lifts.{lifted, raise_free, raise_quiet, wrote}

@@ -1,4 +1,4 @@
-use Rattle.std.proofs.Common.{◌≡◌, ◌<◌, length, sym, ap, ◌∙◌, arith}
+use Rattle.std.proofs.Common.{◌<◌, length, sym, ap, ◌∙◌, arith}
 use Rattle.ag_model.specs.declared.config.Register.{Register}
 use Rattle.ag_rules.specs.Group.{Group, replica}
 use Rattle.ag_rules.specs.Plan.{here}

@@ -1,9 +1,6 @@
-use Rattle.std.proofs.Common.{◌≡◌, [], true, sym, ap, ◌∙◌}
+use Rattle.std.proofs.Common.{◌≡◌, true, sym, ap, ◌∙◌}
 use Rattle.ag_rules.specs.Plan.{Part}
-use Rattle.ag_rules.specs.AckMessage.{ack_message_part}
 use Rattle.ag_node.specs.Sites.{here_at}
-use Rattle.ag_node.specs.Suffixes.{cut_part}
-use Rattle.ag_rules.specs.DeliverEvent.{message_part}
 use Rattle.ag_group.proofs.Cuts.{ack_cut, ack_out}
 use Rattle.ag_group.proofs.group.messages.arrive.Goals as goal
 

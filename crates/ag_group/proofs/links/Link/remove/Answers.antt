@@ -1,4 +1,4 @@
-use Rattle.std.proofs.Common.{ℕ, ◌-◌, ◌++◌, List, take, drop, ap, ◌∙◌}
+use Rattle.std.proofs.Common.{◌-◌, ◌++◌, List, take, drop, ap, ◌∙◌}
 use Rattle.ag_model.specs.declared.message.Message.{Message}
 use Rattle.ag_group.proofs.Taking.{taken_out}
 use Rattle.ag_group.proofs.links.Link.remove.Goals as goal
