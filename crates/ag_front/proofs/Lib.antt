@@ -14,4 +14,5 @@ mod Waits
 mod Closing
 mod TestPages
 mod TestLogs
+mod TestScripts
 mod Examples

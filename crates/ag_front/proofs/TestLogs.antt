@@ -16,7 +16,7 @@ use Rattle.ag_model.specs.Page.{value, commit_of, version_by, is_abort_of, all_v
 use Rattle.ag_model.specs.Prefixes.{IsBlockEnd}
 use Rattle.ag_model.specs.Proper.{IsProper}
 use Rattle.ag_model.specs.Rows.{page_of}
-use Rattle.ag_model.specs.Sizes.{change_size, versions_size, record_size}
+use Rattle.ag_model.specs.Sizes.{change_size, versions_size}
 use Rattle.ag_model.specs.Stripes.{Standing, StandsFor, opening_log}
 use Rattle.ag_front.specs.Opens.{AreStripes, pages_of}
 use Rattle.ag_front.proofs.Closing.{snoc_at}
@@ -36,8 +36,16 @@ one_version true true v = omega arith
 one_version true false v = omega arith
 one_version false a v = omega arith
 
--- a record adds a version that is little longer than itself
-version_small : (pages page lsn : ℕ) (log : List Record) (r : Record) → versions_size (version_by pages page log (lsn, r)) ≤ record_size r + 17
+-- the most that a record adds to a page
+abbrev pub most_added : Record → ℕ
+most_added (Put t key v) = 30 + v.len
+most_added (Del t key) = 30
+most_added (Commit t listed) = 0
+most_added (Abort t listed) = 0
+most_added (Trim p h) = 0
+most_added (Term t) = 0
+
+version_small : (pages page lsn : ℕ) (log : List Record) (r : Record) → versions_size (version_by pages page log (lsn, r)) ≤ most_added r
 version_small pages page lsn log (Put t key v) = omega (arith, one_version (eqb page (page_of pages key)) (list_any (is_abort_of t) log) (record { lsn = lsn; txn = t; commit = commit_of t (numbered log); key = key; change = PutChange v }))
 version_small pages page lsn log (Del t key) = omega (arith, one_version (eqb page (page_of pages key)) (list_any (is_abort_of t) log) (record { lsn = lsn; txn = t; commit = commit_of t (numbered log); key = key; change = DelChange }))
 version_small pages page lsn log (Commit t listed) = omega arith
@@ -45,7 +53,7 @@ version_small pages page lsn log (Abort t listed) = omega arith
 version_small pages page lsn log (Trim p h) = omega arith
 version_small pages page lsn log (Term t) = omega arith
 
-versions_small : (pages page k : ℕ) (log rs : List Record) → versions_size (flat_map (version_by pages page log) (enumerate_from k rs)) ≤ sum_by (λ r. record_size r + 17) rs
+versions_small : (pages page k : ℕ) (log rs : List Record) → versions_size (flat_map (version_by pages page log) (enumerate_from k rs)) ≤ sum_by most_added rs
 versions_small pages page k log [] = omega arith
 versions_small pages page k log (r ∷ rs) =
     omega (
@@ -53,16 +61,16 @@ versions_small pages page k log (r ∷ rs) =
       versions_small pages page (k + 1) log rs,
       version_small pages page k log r,
       sum_by-append (λ (w : Version). change_size w.change) (version_by pages page log (k, r)) (flat_map (version_by pages page log) (enumerate_from (k + 1) rs)),
-      sum_by-cons (λ (x : Record). record_size x + 17) r rs,
+      sum_by-cons most_added r rs,
     )
 
-taken_small : (n : ℕ) (rs : List Record) → sum_by (λ r. record_size r + 17) (take n rs) ≤ sum_by (λ r. record_size r + 17) rs
+taken_small : (n : ℕ) (rs : List Record) → sum_by most_added (take n rs) ≤ sum_by most_added rs
 taken_small zero rs = omega arith
 taken_small (suc n) [] = omega arith
-taken_small (suc n) (r ∷ rs) = omega (arith, taken_small n rs, sum_by-cons (λ (x : Record). record_size x + 17) r rs, sum_by-cons (λ (x : Record). record_size x + 17) r (take n rs))
+taken_small (suc n) (r ∷ rs) = omega (arith, taken_small n rs, sum_by-cons most_added r rs, sum_by-cons most_added r (take n rs))
 
--- a short log has room on each page
-room : (log : List Record) → sum_by (λ r. record_size r + 17) log ≤ 8144 → (n page : ℕ) → versions_size (value 16 log n page).versions ≤ 8144
+-- a log of few changes has room on each page
+pub room : (log : List Record) → sum_by most_added log ≤ 8144 → (n page : ℕ) → versions_size (value 16 log n page).versions ≤ 8144
 unfolding value
 room log small n page =
     omega (
@@ -97,6 +105,18 @@ put_proper = record {
   terms = (omega arith, tt);
   each = (tt, (tt, ((refl, refl), tt)));
   room = room (Term 1 ∷ put_records) (omega arith);
+  ends = (omega arith, (omega arith, tt));
+  last = refl;
+  most = omega arith;
+}
+
+-- the same, and a Trim of the key's page
+pub trim_proper : IsProper 16 (with_block opening_log (Put 1 5 two_bytes ∷ Commit 1 (21 ∷ []) ∷ Trim 21 3 ∷ []))
+trim_proper = record {
+  first = refl;
+  terms = (omega arith, tt);
+  each = (tt, (tt, ((refl, refl), (omega arith, tt))));
+  room = room (Term 1 ∷ Put 1 5 two_bytes ∷ Commit 1 (21 ∷ []) ∷ Trim 21 3 ∷ []) (omega arith);
   ends = (omega arith, (omega arith, tt));
   last = refl;
   most = omega arith;

@@ -1,4 +1,4 @@
-//! A front from its making to its end, and two threads at one.
+//! A front from its making to its end.
 ghost use Rattle.std.specs.Prelude.{◌≡◌, ◌<◌, ◌≤◌, ◌+◌, ◌∷◌, [], true, length, replicate, IfOk};
 ghost use Rattle.ag_model.specs.declared.record.Record.TheVariants.{Put, Commit, Term};
 ghost use Rattle.ag_model.specs.declared.value.Value.{Value};
@@ -20,7 +20,7 @@ use std::process::Abort;
 use std::sync::Wait;
 use std::test::Fail;
 
-const TWO_BYTES: [u8; 64] = [
+pub(crate) const TWO_BYTES: [u8; 64] = [
     97, 97, 0, 0, 0, 0, 0, 0, 0, 0, 0, 0, 0, 0, 0, 0, 0, 0, 0, 0, 0, 0, 0, 0, 0, 0, 0, 0, 0, 0, 0,
     0, 0, 0, 0, 0, 0, 0, 0, 0, 0, 0, 0, 0, 0, 0, 0, 0, 0, 0, 0, 0, 0, 0, 0, 0, 0, 0, 0, 0, 0, 0, 0,
     0,
@@ -38,7 +38,7 @@ fn opening(alloc: Global) -> Result<Log, NoMemory>
 }
 
 // A transaction that puts key 5, as a block that starts there.
-fn put_block(alloc: Global, first: u64) -> Result<Block, NoMemory>
+pub(crate) fn put_block(alloc: Global, first: u64) -> Result<Block, NoMemory>
     ensures { IfOk result (λ block. block ≡ record { first = first; term = 1; records = Put 1 5 (record { len = 2; bytes = 97 ∷ 97 ∷ replicate 62 0 }) ∷ Commit 1 (21 ∷ []) ∷ [] }) }
 {
     let mut records = ListOf::new(alloc);
@@ -134,7 +134,7 @@ pub(crate) fn opened<'a, R: Abort>(
 }
 
 // The first block after the opening one, and one that isn't next.
-fn add<'a, R: Abort + Wait>(
+pub(crate) fn add<'a, R: Abort + Wait>(
     rt: &R,
     alloc: Global,
     front: &TestFront<'a, R>,

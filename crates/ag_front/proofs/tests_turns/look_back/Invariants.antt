@@ -1,0 +1,10 @@
+use Rattle.std.proofs.Common.{◌≡◌, ◌≤◌}
+use Rattle.ag_front.specs.Rule.{least}
+use Rattle.ag_front.proofs.tests_turns.look_back.Given as goal
+
+abbrev pub invariant-loop-step : goal.invariant-loop-step
+invariant-loop-step g l = record {
+  table : l.pass.seat.table_id ≡ l.fn.pass.seat.table_id;
+  parts : l.pass.seat.me.0.parts ≡ l.fn.pass.seat.me.0.parts;
+  front : l.now ≤ least l.pass.seat.me.0.floor;
+}
