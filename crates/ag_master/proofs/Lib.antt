@@ -1,2 +1,2 @@
-mod Fields
+pub mod Fields
 mod Saving

@@ -1,5 +1,5 @@
 -- What a scripted disk shows is one of its images.
-use Rattle.std.specs.Prelude.{◌≡◌, ◌⊎◌, ◌+◌, ◌-◌, ◌^◌, ℕ, min, length, List, [], ◌∷◌, ◌++◌, Some, None, Bool, true, false, IsTrue, if◌then◌else◌, Result, Err, OnOk, IsErrOf, refl}
+use Rattle.std.specs.Prelude.{◌≡◌, ◌⊎◌, ◌+◌, ◌-◌, ◌^◌, ◌≤◌, ℕ, min, length, List, [], ◌∷◌, ◌++◌, Some, None, Bool, true, false, IsTrue, if◌then◌else◌, Result, Err, OnOk, IsErrOf, refl}
 use Rattle.std.specs.Bool.{MatchBool}
 use Rattle.std.proofs.Common.{sym, ap, subst, ◌∙◌, inl, inr}
 use Rattle.std.proofs.lemmas.Bool.Decides.{eqb_tells}
@@ -51,19 +51,23 @@ ToldAtSync keeps reads faults old new Inner = Told keeps reads faults old new []
 
 -- what a scripted disk promises of a write beside the model of a disk: it is kept back, unless the order is reached or the disk below fails
 pub record DidWrite {D : Type 0} (keeps : D → Bool) (reads : D → Image) (faults : D → ℕ) (old : ScriptedView D) (first : ℕ) (sectors : List (List ℕ)) (result : Result (Unit {0}) DiskError) (new : ScriptedView D) : Type 0 where
-  pub kept_back : OnOk result (new.unsynced ≡ old.unsynced ++ writes first sectors)
+  pub kept_back : OnOk result (new ≡ record old { unsynced = old.unsynced ++ writes first sectors; writes = new.writes; calls = new.calls })
   pub writes_counted : new.writes ≡ min (old.writes + 1) (2 ^ 64 - 1)
   pub calls_counted : new.calls ≡ min (old.calls + 1) (2 ^ 64 - 1)
   pub reached : OnOk result (IsReached old.order new.writes new.calls → ⊥)
   pub told : IsErrOf result Failed → Told keeps reads faults old new (old.unsynced ++ writes first sectors) new.why
   pub order : new.order ≡ old.order
-  pub stays : OnOk result ((new.why ≡ old.why) × (new.intact ≡ old.intact))
+  pub later : faults old.disk ≤ faults new.disk
+  pub keeps_same : keeps new.disk ≡ keeps old.disk
 
--- the same of a read, which isn't counted
-pub record DidRead {D : Type 0} (faults : D → ℕ) (old : ScriptedView D) (result : Result Found DiskError) (new : ScriptedView D) : Type 0 where
+-- the same of a read, which isn't counted and changes no sector
+pub record DidRead {D : Type 0} (keeps : D → Bool) (reads : D → Image) (faults : D → ℕ) (old : ScriptedView D) (result : Result Found DiskError) (new : ScriptedView D) : Type 0 where
   pub same : new ≡ record old { disk = new.disk; why = new.why; faults = new.faults }
   pub why : new.why ≡ old.why ⊎ (new.why ≡ Inner) × (result ≡ Err Failed)
-  pub inner : IsErrOf result Failed → HasRisen (faults old.disk) (faults new.disk)
+  pub inner : IsErrOf result Failed → (new.why ≡ Inner) × HasRisen (faults old.disk) (faults new.disk)
+  pub later : faults old.disk ≤ faults new.disk
+  pub keeps_same : keeps new.disk ≡ keeps old.disk
+  pub reads_same : reads new.disk ≡ reads old.disk
 
 -- the same of a sync, which hands down what was kept back
 pub record DidSync {D : Type 0} (keeps : D → Bool) (reads : D → Image) (faults : D → ℕ) (old : ScriptedView D) (result : Result (Unit {0}) DiskError) (new : ScriptedView D) : Type 0 where
@@ -74,11 +78,13 @@ pub record DidSync {D : Type 0} (keeps : D → Bool) (reads : D → Image) (faul
   pub told : IsErrOf result Failed → ToldAtSync keeps reads faults old new new.why
   pub order : new.order ≡ old.order
   pub stays : OnOk result ((new.why ≡ old.why) × (new.intact ≡ old.intact))
+  pub later : faults old.disk ≤ faults new.disk
+  pub keeps_same : keeps new.disk ≡ keeps old.disk
 
 -- what it promises of a call
 abbrev pub did_of : {D : Type 0} → (D → Bool) → (D → Image) → (D → ℕ) → ScriptedView D → Call → ScriptedView D → Type 0
 did_of keeps reads faults old (Write_call first sectors result) new = DidWrite keeps reads faults old first sectors result new
-did_of keeps reads faults old (Read_call at result) new = DidRead faults old result new
+did_of keeps reads faults old (Read_call at result) new = DidRead keeps reads faults old result new
 did_of keeps reads faults old (Sync_call result) new = DidSync keeps reads faults old result new
 
 -- a sector reads what it did, or what was written

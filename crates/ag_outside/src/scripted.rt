@@ -161,6 +161,7 @@ impl<D: Disk> Scripted<D> {
         requires order { self.old.order ≡ Arm.Stop write mask }
         requires reached { self.old.writes ≡ write }
         ensures never { IsErr result }
+        ensures inner_later { D.faults self.old.disk ≤ D.faults self.new.disk }
         ensures told { IsErrOf result DiskError.Failed → Told D.keeps D.reads D.faults self.old self.new self.old.unsynced self.new.why }
         ensures order { (self.new.order ≡ self.old.order) × (self.new.writes ≡ self.old.writes) × (self.new.calls ≡ self.old.calls) }
         ensures crash { MayAdd [] (holds_of D.keeps D.may_hold self.old) (holds_of D.keeps D.may_hold self.new) }

@@ -1,0 +1,11 @@
+mod Stops
+mod Deciding
+mod Finding
+mod Calls
+mod Orders
+mod Coming
+mod Homes
+mod Beginning
+mod Started
+mod Stores
+mod Opened
