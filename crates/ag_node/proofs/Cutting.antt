@@ -16,11 +16,12 @@ use Rattle.ag_rules.specs.Plan.{Part, Batch, Write, Block_write, Master_write, a
 use Rattle.ag_rules.specs.Cut.{all_writes, failed_disk, failed_steps, torn_pages}
 use Rattle.ag_model.specs.declared.record.Record.{Record}
 use Rattle.ag_model.specs.Sizes.{block_sectors}
-use Rattle.ag_node.specs.declared.reach.Reach.{Reach}
-use Rattle.ag_node.specs.declared.reach.Reach.TheVariants.{Stop as StopReach}
+use Rattle.ag_kept.specs.declared.reach.Reach.{Reach}
+use Rattle.ag_kept.specs.declared.reach.Reach.TheVariants.{Stop as StopReach}
 use Rattle.ag_node.specs.Suffixes.{cut_part, stopped_part, failed_part}
 use Rattle.ag_node.proofs.StartSteps.{not_below}
-use Rattle.ag_node.specs.Reaching.{how_far, part_reached}
+use Rattle.ag_kept.specs.Reaching.{how_far}
+use Rattle.ag_node.specs.Reaching.{part_reached}
 
 if_false : (b : Bool) (x y : Part) → b ≡ false → (if b then x else y) ≡ y
 if_false true x y e = absurd cc

@@ -13,4 +13,5 @@ pub mod Rising
 pub mod NodeSets
 pub mod OpeningSteps
 pub mod StartSteps
+pub mod HomeSteps
 pub mod Cutting

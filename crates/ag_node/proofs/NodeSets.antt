@@ -17,7 +17,7 @@ use Rattle.ag_rules.specs.Plan.{Part, Here, refused, unless, at_once}
 use Rattle.ag_record.specs.Spelling.{HaveSpelling}
 use Rattle.ag_rules.specs.Checks.{buffer_is_full}
 use Rattle.ag_rules.specs.SetEvent.{pairs_pass, sets, records_of_set, with_set}
-use Rattle.ag_node.specs.declared.activity.Activity.{Activity}
+use Rattle.ag_node.specs.Activity.{Activity}
 use Rattle.ag_node.specs.View.{node_of, page_of_flag}
 use Rattle.ag_node.specs.Room.{IsSetLog, first_full, used_after, unless_some}
 use Rattle.ag_node.specs.Nodes.{IsNode, leading_of}

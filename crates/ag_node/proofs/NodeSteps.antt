@@ -20,7 +20,7 @@ use Rattle.ag_rules.specs.HardenEvent.{hardens, hardened_one}
 use Rattle.ag_rules.specs.RedoEvent.{redoes_touching}
 use Rattle.ag_rules.specs.ApplyEvent.{applies_touching, next_of_stripe, touched_in_stripe}
 use Rattle.ag_rules.specs.ReadEvent.{reads_at, row_answer, is_too_old}
-use Rattle.ag_node.specs.declared.activity.Activity.{Activity}
+use Rattle.ag_node.specs.Activity.{Activity}
 use Rattle.ag_built.specs.Whole.{IsWhole}
 use Rattle.ag_node.specs.View.{node_of, page_of_flag, state_of}
 use Rattle.ag_node.specs.Marked.{marked, marked_of, marked_to_end}

@@ -8,7 +8,7 @@ use Rattle.ag_model.specs.declared.record.Record.{Record}
 use Rattle.ag_model.specs.declared.record.Record.TheVariants.{Term}
 use Rattle.ag_rules.specs.Replica.{Replica, Peer, Page, Stripe, Leading, clean_page, no_following, all_at}
 use Rattle.ag_rules.specs.Group.{opening_replica, synced_at_opening, opening_peers}
-use Rattle.ag_node.specs.declared.activity.Activity.{Activity}
+use Rattle.ag_node.specs.Activity.{Activity}
 use Rattle.ag_node.specs.View.{node_of, kept_of, page_of_flag}
 use Rattle.ag_node.specs.Nodes.{at_opening, leading_of}
 

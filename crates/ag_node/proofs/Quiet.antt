@@ -19,7 +19,7 @@ use Rattle.ag_rules.specs.Redo.{touched_by, touched_up_to, notes_of, notes_from,
 use Rattle.ag_rules.specs.HardenEvent.{hardened_one, hardens}
 use Rattle.ag_rules.specs.RedoEvent.{redoes, redoes_touching, redone_whole}
 use Rattle.ag_rules.specs.ApplyEvent.{applied_one, applies, applies_touching, touched_in_stripe}
-use Rattle.ag_node.specs.declared.activity.Activity.{Activity}
+use Rattle.ag_node.specs.Activity.{Activity}
 use Rattle.ag_node.specs.View.{node_of, kept_of, page_of_flag}
 use Rattle.ag_node.specs.Marked.{set_where, is_of, marked, marked_of, is_touched_after, marked_to_end}
 use Rattle.ag_node.proofs.MarksSteps.{length-set_where}

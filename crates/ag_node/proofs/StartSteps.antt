@@ -20,7 +20,7 @@ use Rattle.ag_rules.specs.Plan.{Here, Part, Write, Master_write, unless, writing
 use Rattle.ag_rules.specs.Redo.{redone, touched_up_to, notes_of}
 use Rattle.ag_rules.specs.Promotion.{blocks_of, is_spent, leads_now, new_leading, promotion_records, promotion_touches, promotion_writes}
 use Rattle.ag_rules.specs.StartEvent.{start_part, start_part_with, start_writes, starts, starts_first, starts_second, start_records, is_named, woken, started_master}
-use Rattle.ag_node.specs.declared.activity.Activity.{Activity}
+use Rattle.ag_node.specs.Activity.{Activity}
 use Rattle.ag_node.specs.View.{node_of, kept_of, page_of_flag, state_of}
 use Rattle.ag_node.specs.Starting.{CanStart}
 use Rattle.ag_node.specs.Marked.{marked_to_end, is_touched_after}

@@ -1,3 +1,5 @@
+pub mod Activity
+pub mod Homes
 pub mod View
 pub mod Sites
 pub mod Room

@@ -10,7 +10,7 @@ use Rattle.ag_rules.specs.Replica.{Leading, Peer, Stripe}
 use Rattle.std.specs.List.{All}
 use Rattle.ag_model.specs.Starts.{last_term}
 use Rattle.ag_built.specs.Whole.{IsWhole}
-use Rattle.ag_node.specs.declared.activity.Activity.{Activity}
+use Rattle.ag_node.specs.Activity.{Activity}
 use Rattle.ag_logstore.specs.Blocks.{AreBlocks}
 use Rattle.ag_logstore.specs.LogKept.{RisesTo}
 use Rattle.ag_node.specs.Room.{IsSetLog}

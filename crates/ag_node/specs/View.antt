@@ -3,7 +3,7 @@ use Rattle.std.specs.Prelude.{ℕ, List, [], length, map, replicate, Bool, false
 use Rattle.ag_model.specs.declared.record.Log.{Log}
 use Rattle.ag_model.specs.declared.answer.Cell.{Cell}
 use Rattle.ag_model.specs.declared.answer.Cell.TheVariants.{Mark}
-use Rattle.ag_node.specs.declared.activity.Activity.{Activity}
+use Rattle.ag_node.specs.Activity.{Activity}
 use Rattle.ag_rules.specs.Replica.{Replica, Kept, Leading, Page, Stripe, clean_page, no_following}
 
 -- images of pages that were never written

@@ -1,13 +1,12 @@
 //! One replica: what each event does there.
 #![tactic(auto)]
 
-mod activity;
+mod home;
 mod listed;
 mod marks;
 pub mod node;
 pub mod opening;
 mod peer;
-mod reach;
 mod room;
 mod rows;
 pub mod site;

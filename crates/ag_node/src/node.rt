@@ -1,5 +1,5 @@
 //! One replica.
-ghost use Rattle.std.specs.Prelude.{length, List, ◌≡◌, ◌∷◌, [], IfOk, false, not, if◌then◌else◌, ◌==◌, ◌||◌};
+ghost use Rattle.std.specs.Prelude.{length, List, ◌≡◌, ◌∷◌, [], IfOk, true, false, not, if◌then◌else◌, ◌==◌, ◌||◌};
 ghost use Rattle.ag_model.specs.declared.record.Record.{Record};
 ghost use Rattle.ag_model.specs.Sizes.{records_size};
 ghost use Rattle.ag_rules.specs.Replica.{end, front, is_reverting};
@@ -12,12 +12,12 @@ mod following;
 mod leading;
 mod starting;
 
-use crate::activity::Activity;
+use crate::home::Home;
 use crate::opening::{clean, known_at_opening, unused};
 use crate::peer::PeerState;
 use crate::site::Site;
 use crate::stripes::Stripes;
-use ag_logstore::{HardenedLog, block_sectors_of};
+use ag_logstore::block_sectors_of;
 use ag_model::answer::{Answer, Refusal};
 use ag_model::config::Config;
 use ag_model::list::ListOf;
@@ -32,8 +32,7 @@ const TERM: u64 = 1;
 /// One replica, which a contract sees as the replica of the rules. It is in the first term.
 #[derive(Drop)]
 pub struct Node {
-    activity: Activity,
-    log: HardenedLog,
+    home: Home,
     stripes: Stripes,
     /// One flag a data page.
     dirty: Vec<bool>,
@@ -55,9 +54,9 @@ impl Model for Node {
 
     ghost Value = { Replica };
 
-    ghost view = { λ n. node_of n.activity n.log n.stripes n.dirty.items (leading_of n.buffer n.last_txn n.synced n.peers.items) };
+    ghost view = { λ n. node_of n.home.activity n.home.log n.stripes n.dirty.items (leading_of n.buffer n.last_txn n.synced n.peers.items) };
 
-    ghost invariant = { λ n. IsNode n.activity n.log n.stripes (length n.dirty.items) n.buffer n.buffered n.last_txn n.used.items };
+    ghost invariant = { λ n. IsNode n.home.activity n.home.log n.stripes (length n.dirty.items) n.buffer n.buffered n.last_txn n.used.items };
 }
 
 impl Node {
@@ -65,7 +64,7 @@ impl Node {
     pub fn term(&self) -> u64
         ensures { result ≡ self.now.term }
     {
-        let _ = &self.activity;
+        let _ = &self.home;
         TERM
     }
 
@@ -73,7 +72,7 @@ impl Node {
     pub fn is_up(&self) -> bool
         ensures { result ≡ self.now.up }
     {
-        self.activity.up
+        self.home.is_up()
     }
 
     /// Whether it is primary.
@@ -82,22 +81,24 @@ impl Node {
         ensures term { self.now.term ≡ 1 }
         ensures steady { is_reverting self.now.state ≡ false }
     {
-        self.activity.leads
+        self.home.leads()
     }
 
     /// Whether blocks of its primary are hardened here.
     fn follows(&self) -> bool
         ensures is { result ≡ (self.now.state == 1) }
         ensures other { ((self.now.state == 0) || (self.now.state == 3)) ≡ not result }
+        ensures up { result ≡ true → self.now.up ≡ true }
     {
-        self.activity.follows
+        self.home.follows()
     }
 
     /// Where its hardened log ends, an LSN.
     fn end(&self) -> u64
+        requires up { self.now.up ≡ true }
         ensures { result ≡ end self.now }
     {
-        self.log.end()
+        self.home.end()
     }
 
     /// The front that reads see, an LSN.
@@ -109,10 +110,11 @@ impl Node {
 
     /// Why the log has no room for a block of these bytes, if it has none.
     fn log_refusal(&self, bytes: u64) -> Result<Option<Refusal>, NoMemory>
+        requires up { self.now.up ≡ true }
         ensures { IfOk result (λ why. (new : List Record) → records_size new ≡ bytes → IsRefusedBy why (log_check self.now (new ∷ []))) }
     {
         let need = block_sectors_of(bytes);
-        let free = self.log.free_sectors();
+        let free = self.home.free_sectors();
         if free < need {
             Ok(Some(Refusal::LogFull { need, free }))
         } else {
@@ -127,15 +129,8 @@ impl Node {
         ensures pages { IfOk result (λ node. length node.pages ≡ config.now.pages) }
     {
         let (synced, peers) = known_at_opening(alloc, config.modes.as_slice(), leads)?;
-        let activity = Activity {
-            up: true,
-            leads,
-            follows: !leads,
-            incarnation: 1,
-        };
         Ok(Node {
-            activity,
-            log: HardenedLog::opening(alloc)?,
+            home: Home::opening(alloc, config.pages, leads)?,
             stripes: Stripes::all_at(1),
             dirty: clean(alloc, config.pages)?,
             buffer: ListOf::new(alloc),

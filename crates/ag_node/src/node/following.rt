@@ -1,6 +1,6 @@
 //! What the events of a secondary do.
-ghost use Rattle.std.specs.Prelude.{◌≡◌, ◌<◌, ◌==◌, ◌∷◌, [], IfOk, OnOk, IfSome, IfNone, MatchOption, length, false, true};
-ghost use Rattle.ag_model.specs.Blocks.{with_block};
+ghost use Rattle.std.specs.Prelude.{◌≡◌, ◌+◌, ◌≤◌, ◌<◌, ◌==◌, ◌∷◌, [], IfOk, OnOk, IfSome, IfNone, MatchOption, length, false, true};
+ghost use Rattle.ag_model.specs.Sizes.{block_sectors, free_sectors};
 ghost use Rattle.ag_rules.specs.Replica.{end, front, stripe};
 ghost use Rattle.ag_rules.specs.Promotion.{log_check};
 ghost use Rattle.ag_rules.specs.Redo.{touched_up_to};
@@ -11,7 +11,9 @@ ghost use Rattle.ag_rules.specs.ReadEvent.{read_part, reads_at, row_answer};
 ghost use Rattle.ag_rules.specs.Messages.{ack_message};
 ghost use Rattle.ag_rules.specs.BlockMessage.{block_part};
 ghost use Rattle.ag_rules.specs.DeliverEvent.{leaves};
-ghost use Rattle.ag_rules.specs.Plan.{sending};
+ghost use Rattle.ag_rules.specs.Plan.{sending, Block_write};
+ghost use Rattle.ag_kept.specs.Reaching.{how_far};
+ghost use Rattle.ag_node.specs.Reaching.{part_reached};
 ghost use Rattle.ag_built.specs.Built.{IsBuiltMessage};
 ghost use Rattle.ag_built.specs.Whole.{IsWhole};
 ghost use Rattle.ag_record.specs.Spelling.{ArePayload};
@@ -24,16 +26,16 @@ ghost use Rattle.ag_node.specs.Nodes.{IsRefusedBy};
 
 use super::{Node, TERM, device_failed, down, stopped};
 use crate::marks::{mark, mark_to_end};
-use crate::reach::{Reach, how_far};
 use crate::rows::{horizon_at, row_at};
 use crate::site::Site;
 use crate::stripes::Stripes;
-use ag_logstore::{block_sectors_of, copy_of, records_size};
+use ag_kept::Reach;
+use ag_logstore::records_size;
 use ag_model::answer::{Answer, Refusal};
 use ag_model::config::Token;
 use ag_model::event::Suffix;
 use ag_model::message::{Block, Body, Message};
-use ag_model::record::{Record, RecordList};
+use ag_model::record::Record;
 use ag_model::value::{NoMemory, Row};
 use std::alloc::Global;
 
@@ -60,14 +62,15 @@ impl Node {
     /// Applies the log to the pages, to its end.
     fn redo_all(&mut self, pages: u16) -> u64
         requires pages { pages ≡ length self.old.pages }
+        requires up { self.old.up ≡ true }
         requires follows { self.old.leads ≡ false }
         ensures lsn { result ≡ end self.old }
         ensures after { self.new ≡ (redoes_touching pages self.old (touched_up_to pages (end self.old) self.old)).after }
         ensures writes { (redoes_touching pages self.old (touched_up_to pages (end self.old) self.old)).writes ≡ [] }
         ensures pages { length self.new.pages ≡ length self.old.pages }
     {
-        let end = self.log.end();
-        let records = self.log.records();
+        let end = self.home.end();
+        let records = self.home.records();
         mark_to_end(self.dirty.as_mut_slice(), &self.stripes, records);
         self.stripes = Stripes::all_at(end);
         end
@@ -107,6 +110,7 @@ impl Node {
     /// Applies the next block of the log to a stripe.
     fn apply_next(&mut self, pages: u16, x: u8) -> u64
         requires pages { pages ≡ length self.old.pages }
+        requires up { self.old.up ≡ true }
         requires stripe { x < 16 }
         requires follows { self.old.leads ≡ false }
         ensures lsn { result ≡ next_of_stripe self.old x }
@@ -115,8 +119,8 @@ impl Node {
         ensures pages { length self.new.pages ≡ length self.old.pages }
     {
         let applied = self.stripes.applied(x);
-        let next = self.log.end_after(applied);
-        let new = &self.log.records()[applied as usize..next as usize];
+        let next = self.home.end_after(applied);
+        let new = &self.home.records()[applied as usize..next as usize];
         mark(self.dirty.as_mut_slice(), Some(x), new);
         self.stripes.apply(x, next);
         next
@@ -202,12 +206,13 @@ impl Node {
 
     /// The row of a key at the front, where its page allows it.
     fn row_at_front(&self, alloc: Global, site: &Site, key: u32) -> Result<Answer, NoMemory>
+        requires up { self.now.up ≡ true }
         requires pages { site.now.pages ≡ length self.now.pages }
         ensures answer { IfOk result (λ a. a ≡ (reads_at (here_at site.now) self.now (front self.now) key).answer) }
         ensures left { OnOk result ((reads_at (here_at site.now) self.now (front self.now) key).after ≡ self.now) }
         ensures writes { OnOk result ((reads_at (here_at site.now) self.now (front self.now) key).writes ≡ []) }
     {
-        let records = self.log.records();
+        let records = self.home.records();
         let front = self.stripes.front();
         let page = 16 + (key % u32::from(site.pages)) as u16;
         let applied = self.stripes.applied((page % 16) as u8);
@@ -247,31 +252,15 @@ impl Node {
         if let Some(told) = self.block_case(site, from, full, term, block)? {
             return Ok(told);
         }
-        match how_far(
-            suffix,
-            block_sectors_of(records_size(block.records.as_slice())?),
-            2,
-        ) {
-            Reach::End => {
-                let lsn = self
-                    .end()
-                    .checked_add(block.records.len() as u64)
-                    .ok_or(NoMemory)?;
-                let message = self.ack(lsn);
-                self.append_block(&block.records)?;
-                Ok((Answer::Hardened { lsn }, Some(message)))
-            }
-            Reach::Stop { whole } => {
-                if whole {
-                    self.append_block(&block.records)?;
-                }
-                self.fall(alloc);
-                Ok((stopped(alloc, whole), None))
-            }
-            Reach::Fault => {
-                self.fall(alloc);
-                Ok((device_failed(site), None))
-            }
+        let lsn = self
+            .end()
+            .checked_add(block.records.len() as u64)
+            .ok_or(NoMemory)?;
+        let message = self.ack(lsn);
+        match self.append_block(alloc, block, suffix)? {
+            Reach::End => Ok((Answer::Hardened { lsn }, Some(message))),
+            Reach::Stop { whole } => Ok((stopped(alloc, whole), None)),
+            Reach::Fault => Ok((device_failed(site), None)),
         }
     }
 
@@ -289,6 +278,9 @@ impl Node {
         ensures built { IfOk result (λ told. IfSome told (λ x. IfSome x.1 IsBuiltMessage)) }
         ensures follows { IfOk result (λ told. IfNone told (self.now.leads ≡ false)) }
         ensures state { IfOk result (λ told. IfNone told ((self.now.state == 1) ≡ true)) }
+        ensures up { IfOk result (λ told. IfNone told (self.now.up ≡ true)) }
+        ensures next { IfOk result (λ told. IfNone told (block.now.first ≡ end self.now + 1)) }
+        ensures room { IfOk result (λ told. IfNone told (block_sectors block.now.records ≤ free_sectors self.now.kept.log)) }
     {
         if self.leads() || term != TERM || !self.follows() {
             return Ok(Some((Answer::No(Refusal::Nothing), None)));
@@ -314,22 +306,44 @@ impl Node {
 
     /// Why the log has no room for a block of these records, if it has none.
     fn block_refusal(&self, new: &[Record]) -> Result<Option<Refusal>, NoMemory>
+        requires up { self.now.up ≡ true }
         ensures { IfOk result (λ why. IsRefusedBy why (log_check self.now (new.now ∷ []))) }
     {
         self.log_refusal(records_size(new)?)
     }
 
-    /// Hardens a block that came.
-    fn append_block(&mut self, new: &RecordList) -> Result<(), NoMemory>
-        requires fits { ArePayload new.now }
-        requires whole { IsWhole new.now }
+    /// Hardens a block that came, and tells how far it came. Unless it comes to its end the node is down.
+    fn append_block(
+        &mut self,
+        alloc: Global,
+        block: &Block,
+        suffix: &Suffix,
+    ) -> Result<Reach, NoMemory>
+        requires fits { ArePayload block.now.records }
+        requires whole { IsWhole block.now.records }
+        requires up { self.old.up ≡ true }
         requires follows { self.old.leads ≡ false }
-        ensures after { OnOk result (self.new ≡ record self.old { kept = record self.old.kept { log = with_block self.old.kept.log new.now } }) }
+        requires next { block.now.first ≡ end self.old + 1 }
+        requires room { block_sectors block.now.records ≤ free_sectors self.old.kept.log }
+        ensures reach { IfOk result (λ r. r ≡ how_far suffix.now (block_sectors block.now.records) 2) }
+        ensures after { IfOk result (λ r. self.new ≡ (part_reached 0 self.old (hardens_block 0 self.old block.now) (Block_write block.now.records) r).after) }
         ensures pages { length self.new.pages ≡ length self.old.pages }
     {
-        let mut records = copy_of(new)?;
-        self.log.append(&mut records)?;
-        Ok(())
+        match self.home.harden(block, suffix) {
+            Ok(Reach::End) => Ok(Reach::End),
+            Ok(Reach::Stop { whole }) => {
+                self.fall(alloc);
+                Ok(Reach::Stop { whole })
+            }
+            Ok(Reach::Fault) => {
+                self.fall(alloc);
+                Ok(Reach::Fault)
+            }
+            Err(e) => {
+                self.stripes = Stripes::all_at(1);
+                Err(e)
+            }
+        }
     }
 
     /// The Ack of a replica that has hardened up to an LSN.

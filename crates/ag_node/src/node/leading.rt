@@ -1,7 +1,7 @@
 //! What the events of a primary do.
 ghost use Rattle.std.specs.Prelude.{◌≡◌, ◌+◌, ◌-◌, ◌≤◌, ◌==◌, ◌∷◌, [], IfOk, OnOk, IfSome, IfNone, length, false, true, MatchOption, nat_eq};
 ghost use Rattle.std.specs.List.{AllByRecursion};
-ghost use Rattle.ag_model.specs.Sizes.{records_size as size_of_records};
+ghost use Rattle.ag_model.specs.Sizes.{records_size as size_of_records, block_sectors, free_sectors};
 ghost use Rattle.ag_model.specs.Blocks.{after_to, with_block};
 ghost use Rattle.ag_rules.specs.Plan.{Block_write, refused};
 ghost use Rattle.ag_rules.specs.Replica.{end, fallen, full_end, peer, records, with_peer};
@@ -16,22 +16,26 @@ ghost use Rattle.ag_built.specs.Whole.{IsWhole};
 ghost use Rattle.ag_node.specs.Out.{posting_of};
 ghost use Rattle.ag_node.specs.Sites.{here_at};
 ghost use Rattle.ag_node.specs.Suffixes.{cut_part};
-ghost use Rattle.ag_node.specs.Reaching.{kept_of_write};
+ghost use Rattle.ag_node.specs.Reaching.{part_reached};
+ghost use Rattle.ag_kept.specs.Reaching.{how_far};
+ghost use Rattle.ag_kept.specs.declared.reach.Reach.{Reach};
 ghost use Rattle.ag_node.specs.Nodes.{IsRefusedBy};
 
 use super::{Node, TERM, device_failed, down, not_primary, stopped};
 use crate::listed::records_of_set;
 use crate::marks::mark;
-use crate::reach::{Reach, how_far};
 use crate::room::{first_full, spend};
 use crate::site::Site;
 use crate::stripes::Stripes;
-use ag_logstore::{block_sectors_of, records_size};
+use ag_kept::Reach;
+use ag_logstore::records_size;
 use ag_model::answer::{Answer, Refusal};
 use ag_model::event::{Pair, PairList, Suffix};
+use ag_model::list::ListOf;
 use ag_model::message::{Block, Body, Message};
 use ag_model::value::NoMemory;
 use std::alloc::Global;
+use std::mem;
 
 /// The most bytes of records that the buffer holds.
 const BUFFER_BYTES: u64 = 15_488;
@@ -71,9 +75,10 @@ impl Node {
 
     /// The LSN of the record so many after the buffer's last.
     fn lsn_after(&self, more: u64) -> Result<u64, NoMemory>
+        requires up { self.now.up ≡ true }
         ensures { IfOk result (λ lsn. lsn ≡ full_end self.now + more) }
     {
-        let end = self.log.end().checked_add(self.buffer.len() as u64);
+        let end = self.home.end().checked_add(self.buffer.len() as u64);
         let lsn = end.and_then(|end| end.checked_add(more));
         Ok(lsn.ok_or(NoMemory)?)
     }
@@ -81,6 +86,7 @@ impl Node {
     /// The transaction, where each pair has room on its page and the buffer has room for all records.
     fn set_pairs(&mut self, alloc: Global, site: &Site, pairs: &[Pair]) -> Result<Answer, NoMemory>
         requires pages { site.now.pages ≡ length self.old.pages }
+        requires up { self.old.up ≡ true }
         requires leads { self.old.leads ≡ true }
         requires some { 1 ≤ length pairs.now }
         requires few { length pairs.now ≤ 8 }
@@ -121,22 +127,15 @@ impl Node {
         ensures after { OnOk result (self.new ≡ (cut_part site.now.pages site.now.number suffix.now self.old (harden_part (here_at site.now) self.old)).after) }
         ensures pages { length self.new.pages ≡ length self.old.pages }
     {
+        let _ = &self.home;
         if let Some(why) = self.harden_refusal(site)? {
             return Ok(Answer::No(why));
         }
-        match how_far(suffix, block_sectors_of(self.buffered), 2) {
-            Reach::End => {
-                let lsn = self.harden_buffer(site.pages)?;
-                Ok(Answer::Hardened { lsn })
-            }
-            Reach::Stop { whole } => {
-                self.stop_harden(alloc, whole)?;
-                Ok(stopped(alloc, whole))
-            }
-            Reach::Fault => {
-                self.fall(alloc);
-                Ok(device_failed(site))
-            }
+        let lsn = self.lsn_after(0)?;
+        match self.harden_buffer(alloc, site.pages, suffix)? {
+            Reach::End => Ok(Answer::Hardened { lsn }),
+            Reach::Stop { whole } => Ok(stopped(alloc, whole)),
+            Reach::Fault => Ok(device_failed(site)),
         }
     }
 
@@ -144,7 +143,9 @@ impl Node {
     #[tactic(auto, unfolding(ag_rules::specs::HardenEvent::harden_part))]
     fn harden_refusal(&self, site: &Site) -> Result<Option<Refusal>, NoMemory>
         ensures part { IfOk result (λ w. MatchOption w (harden_part (here_at site.now) self.now ≡ hardens site.now.pages self.now (due_pages site.now.pages (hardened_one site.now.pages self.now))) (λ why. harden_part (here_at site.now) self.now ≡ refused why self.now)) }
+        ensures up { IfOk result (λ w. IfNone w (self.now.up ≡ true)) }
         ensures leads { IfOk result (λ w. IfNone w (self.now.leads ≡ true)) }
+        ensures room { IfOk result (λ w. IfNone w (block_sectors self.now.leading.buffer ≤ free_sectors self.now.kept.log)) }
         ensures some { IfOk result (λ w. IfNone w ((length self.now.leading.buffer == 0) ≡ false)) }
     {
         if !self.is_up() {
@@ -162,30 +163,6 @@ impl Node {
         self.buffer_refusal()
     }
 
-    /// The write of the buffer's block is stopped, and the node goes down. The block is there where all of it was kept.
-    fn stop_harden(&mut self, alloc: Global, whole: bool) -> Result<(), NoMemory>
-        requires some { (length self.old.leading.buffer == 0) ≡ false }
-        ensures after { OnOk result (self.new ≡ fallen self.old (kept_of_write whole self.old.kept (Block_write self.old.leading.buffer))) }
-        ensures pages { length self.new.pages ≡ length self.old.pages }
-    {
-        if whole {
-            self.keep_buffer()?;
-        }
-        self.fall(alloc);
-        Ok(())
-    }
-
-    /// Moves the buffer into the log, as a block.
-    fn keep_buffer(&mut self) -> Result<(), NoMemory>
-        requires some { (length self.old.leading.buffer == 0) ≡ false }
-        ensures after { OnOk result (self.new ≡ record self.old { kept = record self.old.kept { log = with_block self.old.kept.log self.old.leading.buffer }; leading = record self.old.leading { buffer = [] } }) }
-        ensures pages { length self.new.pages ≡ length self.old.pages }
-    {
-        self.log.append(&mut self.buffer)?;
-        self.buffered = 0;
-        Ok(())
-    }
-
     fn is_buffer_empty(&self) -> bool
         ensures { result ≡ (length self.now.leading.buffer == 0) }
     {
@@ -194,26 +171,55 @@ impl Node {
 
     /// Why the log has no room for the buffer, if it has none.
     fn buffer_refusal(&self) -> Result<Option<Refusal>, NoMemory>
+        requires up { self.now.up ≡ true }
         ensures { IfOk result (λ why. IsRefusedBy why (log_check self.now (self.now.leading.buffer ∷ []))) }
     {
         self.log_refusal(self.buffered)
     }
 
-    /// Makes the buffer a block of the log and applies it to the pages.
-    fn harden_buffer(&mut self, pages: u16) -> Result<u64, NoMemory>
+    /// Makes the buffer a block of the log and applies it to the pages, and tells how far it came. Unless it comes to its end
+    /// the node is down.
+    fn harden_buffer(
+        &mut self,
+        alloc: Global,
+        pages: u16,
+        suffix: &Suffix,
+    ) -> Result<Reach, NoMemory>
         requires pages { pages ≡ length self.old.pages }
+        requires up { self.old.up ≡ true }
         requires leads { self.old.leads ≡ true }
         requires some { (length self.old.leading.buffer == 0) ≡ false }
-        ensures lsn { IfOk result (λ lsn. lsn ≡ full_end self.old) }
-        ensures after { OnOk result (self.new ≡ (hardens pages self.old (due_pages pages (hardened_one pages self.old))).after) }
+        requires room { block_sectors self.old.leading.buffer ≤ free_sectors self.old.kept.log }
+        ensures reach { IfOk result (λ r. r ≡ how_far suffix.now (block_sectors self.old.leading.buffer) 2) }
+        ensures after { IfOk result (λ r. self.new ≡ (part_reached 0 self.old (hardens pages self.old (due_pages pages (hardened_one pages self.old))) (Block_write self.old.leading.buffer) r).after) }
         ensures pages { length self.new.pages ≡ length self.old.pages }
     {
-        mark(self.dirty.as_mut_slice(), None, self.buffer.as_slice());
-        self.log.append(&mut self.buffer)?;
+        let first = self.home.end().checked_add(1).ok_or(NoMemory)?;
+        let block = Block {
+            first,
+            term: TERM,
+            records: mem::replace(&mut self.buffer, ListOf::new(alloc)),
+        };
         self.buffered = 0;
-        let end = self.log.end();
-        self.stripes = Stripes::all_at(end);
-        Ok(end)
+        match self.home.harden(&block, suffix) {
+            Ok(Reach::End) => {
+                mark(self.dirty.as_mut_slice(), None, block.records.as_slice());
+                self.stripes = Stripes::all_at(self.home.end());
+                Ok(Reach::End)
+            }
+            Ok(Reach::Stop { whole }) => {
+                self.fall(alloc);
+                Ok(Reach::Stop { whole })
+            }
+            Ok(Reach::Fault) => {
+                self.fall(alloc);
+                Ok(Reach::Fault)
+            }
+            Err(e) => {
+                self.stripes = Stripes::all_at(1);
+                Err(e)
+            }
+        }
     }
 
     /// `send` at this replica: the next hardened block goes to replica m, whose link may be full.
@@ -268,13 +274,14 @@ impl Node {
 
     /// The end of the block to send next, where it is hardened.
     fn block_to_send(&self, m: u8, first: u64) -> Option<u64>
-        requires { first ≡ (peer self.now m).next }
+        requires up { self.now.up ≡ true }
+        requires first { first ≡ (peer self.now m).next }
         ensures end { result ≡ block_to_send self.now m }
         ensures bounds { IfSome result (λ last. (1 ≤ first) × (first ≤ last) × (last ≤ end self.now)) }
         ensures small { IfSome result (λ last. size_of_records (after_to (first - 1) last (records self.now)) ≤ 15488) }
         ensures whole { IfSome result (λ last. IsWhole (after_to (first - 1) last (records self.now))) }
     {
-        self.log.block_from(first)
+        self.home.block_from(first)
     }
 
     /// Takes the next block to a message to replica m.
@@ -285,6 +292,7 @@ impl Node {
         first: u64,
         last: u64,
     ) -> Result<Message, NoMemory>
+        requires up { self.old.up ≡ true }
         requires connected { (peer self.old m).connected ≡ true }
         requires first { first ≡ (peer self.old m).next }
         requires bounds { (1 ≤ first) × (first ≤ last) × (last ≤ end self.old) }
@@ -297,8 +305,8 @@ impl Node {
     {
         let block = Block {
             first,
-            term: self.log.term_at(last),
-            records: self.log.copy_block(alloc, first, last)?,
+            term: self.home.term_at(last),
+            records: self.home.copy_block(alloc, first, last)?,
         };
         let next = last.checked_add(1).ok_or(NoMemory)?;
         let peer = &mut self.peers[usize::from(m)];

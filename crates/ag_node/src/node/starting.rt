@@ -1,5 +1,5 @@
 //! Crash, start, and what a replica says of itself.
-ghost use Rattle.std.specs.Prelude.{◌≡◌, ◌+◌, ◌<◌, [], ◌∷◌, false, true, IfOk, OnOk, IfSome, IfNone, length};
+ghost use Rattle.std.specs.Prelude.{◌≡◌, ◌+◌, ◌≤◌, ◌<◌, ◌==◌, [], ◌∷◌, false, true, IfOk, OnOk, IfSome, IfNone, length};
 ghost use Rattle.ag_rules.specs.Replica.{end, fallen, records};
 ghost use Rattle.ag_rules.specs.Plan.{Master_write, refused, written};
 ghost use Rattle.ag_rules.specs.Promotion.{promotion_records};
@@ -8,19 +8,19 @@ ghost use Rattle.ag_rules.specs.CrashEvent.{crash_part};
 ghost use Rattle.ag_rules.specs.StartEvent.{start_part, started_master, starts_first, starts_second};
 ghost use Rattle.ag_rules.specs.LookEvent.{status_part, printed_state, role_of};
 ghost use Rattle.ag_node.specs.Sites.{here_at, here_among};
-ghost use Rattle.ag_node.specs.Starting.{CanStart};
+ghost use Rattle.ag_kept.specs.Reaching.{how_far};
+ghost use Rattle.ag_node.specs.Starting.{CanStart, woken_up, asleep};
 ghost use Rattle.ag_node.specs.Suffixes.{cut_part};
 
 use super::{Node, TERM, device_failed, down, stopped};
-use crate::activity::Activity;
 use crate::marks::mark_to_end;
 use crate::opening::strangers;
-use crate::reach::{Reach, how_far};
 use crate::room::used_in;
 use crate::site::Site;
 use crate::stripes::Stripes;
 use crate::txns::last_txn;
 use ag_cluster::members::has_member;
+use ag_kept::Reach;
 use ag_model::answer::{Answer, Refusal, Role};
 use ag_model::config::Mode;
 use ag_model::event::Suffix;
@@ -49,12 +49,7 @@ impl Node {
         ensures after { self.new ≡ fallen self.old self.old.kept }
         ensures pages { length self.new.pages ≡ length self.old.pages }
     {
-        self.activity = Activity {
-            up: false,
-            leads: false,
-            follows: false,
-            incarnation: self.activity.incarnation,
-        };
+        self.home.fall();
         self.stripes = Stripes::all_at(1);
         self.dirty.fill(false);
         self.buffer = ListOf::new(alloc);
@@ -80,18 +75,16 @@ impl Node {
         ensures after { OnOk result (self.new ≡ (cut_part site.now.pages site.now.number suffix.now self.old (start_part (here_among site.now modes.now) self.old)).after) }
         ensures pages { length self.new.pages ≡ length self.old.pages }
     {
-        if let Some(why) = self.start_refusal(site, modes) {
+        let _ = &self.home;
+        if let Some(why) = self.start_refusal(site, modes)? {
             return Ok(Answer::No(why));
         }
-        match how_far(suffix, 1, 3) {
+        match self.start_home(alloc, suffix)? {
             Reach::End => {
                 let answer = self.start_whole(alloc, site, modes)?;
                 Ok(answer)
             }
             Reach::Stop { whole } => {
-                if whole {
-                    self.raise_incarnation()?;
-                }
                 self.fall(alloc);
                 Ok(stopped(alloc, whole))
             }
@@ -104,24 +97,67 @@ impl Node {
 
     /// Why it can't start, if it can't.
     #[tactic(auto, unfolding(ag_rules::specs::StartEvent::start_part))]
-    fn start_refusal(&self, site: &Site, modes: &[Mode]) -> Option<Refusal>
-        requires pages { site.now.pages ≡ length self.now.pages }
+    fn start_refusal(
+        &mut self,
+        site: &Site,
+        modes: &[Mode],
+    ) -> Result<Option<Refusal>, NoMemory>
+        requires pages { site.now.pages ≡ length self.old.pages }
         requires term { site.now.store.term ≡ 1 }
-        ensures part { IfSome result (λ why. start_part (here_among site.now modes.now) self.now ≡ refused why self.now) }
-        ensures can { IfNone result (CanStart self.now) }
-        ensures writes { IfNone result ((start_part (here_among site.now modes.now) self.now).writes ≡ [] ∷ (Master_write (started_master self.now) (end self.now) ∷ []) ∷ []) }
+        ensures part { IfOk result (λ w. IfSome w (λ why. start_part (here_among site.now modes.now) self.old ≡ refused why self.old)) }
+        ensures can { IfOk result (λ w. IfNone w (CanStart self.old)) }
+        ensures roles { IfOk result (λ w. IfNone w ((self.old.leads ≡ false) × ((self.old.state == 1) ≡ false))) }
+        ensures few { IfOk result (λ w. IfNone w (self.old.kept.master.incarnation < 9223372036854775808)) }
+        ensures writes { IfOk result (λ w. IfNone w ((start_part (here_among site.now modes.now) self.old).writes ≡ [] ∷ (Master_write (started_master self.old) (end self.old) ∷ []) ∷ [])) }
+        ensures left { OnOk result (self.new ≡ self.old) }
+        ensures pages { length self.new.pages ≡ length self.old.pages }
     {
         let _ = modes;
-        if self.activity.up {
-            return Some(Refusal::Nothing);
+        let _ = &self.home;
+        if self.is_up() {
+            return Ok(Some(Refusal::Nothing));
         }
-        if self.activity.incarnation >= 9_223_372_036_854_775_808 {
-            return Some(Refusal::Spent);
+        let incarnation = self.incarnation()?;
+        if incarnation >= 9_223_372_036_854_775_808 {
+            return Ok(Some(Refusal::Spent));
         }
-        None
+        Ok(None)
     }
 
-    /// Starts, where it can.
+    /// The incarnation in the master of a node that is down.
+    fn incarnation(&mut self) -> Result<u64, NoMemory>
+        requires down { self.old.up ≡ false }
+        ensures is { IfOk result (λ n. n ≡ self.old.kept.master.incarnation) }
+        ensures left { OnOk result (self.new ≡ self.old) }
+        ensures pages { length self.new.pages ≡ length self.old.pages }
+    {
+        match self.home.incarnation() {
+            Ok(incarnation) => Ok(incarnation),
+            Err(e) => {
+                self.stripes = Stripes::all_at(1);
+                Err(e)
+            }
+        }
+    }
+
+    /// Reads the log and the master of a node that is down, and writes the master with the next incarnation.
+    fn start_home(&mut self, alloc: Global, suffix: &Suffix) -> Result<Reach, NoMemory>
+        requires down { self.old.up ≡ false }
+        requires few { self.old.kept.master.incarnation < 9223372036854775808 }
+        ensures reach { IfOk result (λ r. r ≡ how_far suffix.now 1 3) }
+        ensures after { IfOk result (λ r. self.new ≡ woken_up self.old r) }
+        ensures pages { length self.new.pages ≡ length self.old.pages }
+    {
+        match self.home.start(alloc, suffix) {
+            Ok(reach) => Ok(reach),
+            Err(e) => {
+                self.stripes = Stripes::all_at(1);
+                Err(e)
+            }
+        }
+    }
+
+    /// Goes on to start, once its master is written.
     fn start_whole(
         &mut self,
         alloc: Global,
@@ -130,55 +166,38 @@ impl Node {
     ) -> Result<Answer, NoMemory>
         requires pages { site.now.pages ≡ length self.old.pages }
         requires term { site.now.store.term ≡ 1 }
-        requires can { CanStart self.old }
-        ensures answer { IfOk result (λ a. a ≡ (start_part (here_among site.now modes.now) self.old).answer) }
-        ensures after { OnOk result (self.new ≡ (start_part (here_among site.now modes.now) self.old).after) }
+        requires up { self.old.up ≡ true }
+        requires leads { self.old.leads ≡ false }
+        requires follows { (self.old.state == 1) ≡ false }
+        requires least { 1 ≤ self.old.kept.master.incarnation }
+        requires can { CanStart (asleep self.old) }
+        ensures answer { IfOk result (λ a. a ≡ (start_part (here_among site.now modes.now) (asleep self.old)).answer) }
+        ensures after { OnOk result (self.new ≡ (start_part (here_among site.now modes.now) (asleep self.old)).after) }
         ensures pages { length self.new.pages ≡ length self.old.pages }
     {
-        let incarnation = self.next_incarnation()?;
         if site.store.primary == site.number {
-            let answer = self.start_first(alloc, site, modes, incarnation)?;
+            let answer = self.start_first(alloc, site, modes)?;
             Ok(answer)
         } else {
-            Ok(self.start_second(site.pages, incarnation))
+            Ok(self.start_second(site.pages))
         }
     }
 
-    /// The incarnation after this one.
-    fn next_incarnation(&self) -> Result<u64, NoMemory>
-        ensures { IfOk result (λ n. n ≡ self.now.kept.master.incarnation + 1) }
-    {
-        Ok(self.activity.incarnation.checked_add(1).ok_or(NoMemory)?)
-    }
-
-    /// Writes the master of a node that starts.
-    fn raise_incarnation(&mut self) -> Result<(), NoMemory>
-        ensures after { OnOk result (self.new ≡ record self.old { kept = written self.old.kept (Master_write (started_master self.old) (end self.old)) }) }
-        ensures pages { length self.new.pages ≡ length self.old.pages }
-    {
-        self.activity.incarnation = self.next_incarnation()?;
-        Ok(())
-    }
-
     /// Starts as a secondary, and redoes the log.
-    fn start_second(&mut self, pages: u16, incarnation: u64) -> Answer
+    fn start_second(&mut self, pages: u16) -> Answer
         requires pages { pages ≡ length self.old.pages }
-        requires down { self.old.up ≡ false }
-        requires incarnation { incarnation ≡ self.old.kept.master.incarnation + 1 }
-        ensures answer { result ≡ (starts_second self.old (touched_up_to pages (end self.old) self.old)).answer }
-        ensures after { self.new ≡ (starts_second self.old (touched_up_to pages (end self.old) self.old)).after }
+        requires up { self.old.up ≡ true }
+        requires leads { self.old.leads ≡ false }
+        requires follows { (self.old.state == 1) ≡ false }
+        requires least { 1 ≤ self.old.kept.master.incarnation }
+        ensures answer { result ≡ (starts_second (asleep self.old) (touched_up_to pages (end self.old) (asleep self.old))).answer }
+        ensures after { self.new ≡ (starts_second (asleep self.old) (touched_up_to pages (end self.old) (asleep self.old))).after }
         ensures pages { length self.new.pages ≡ length self.old.pages }
     {
         let _ = pages;
-        let end = self.log.end();
-        mark_to_end(self.dirty.as_mut_slice(), &self.stripes, self.log.records());
+        let end = self.home.end();
+        mark_to_end(self.dirty.as_mut_slice(), &self.stripes, self.home.records());
         self.stripes = Stripes::all_at(end);
-        self.activity = Activity {
-            up: true,
-            leads: false,
-            follows: false,
-            incarnation,
-        };
         Answer::Started {
             role: Role::Secondary,
             term: TERM,
@@ -193,19 +212,20 @@ impl Node {
         alloc: Global,
         site: &Site,
         modes: &[Mode],
-        incarnation: u64,
     ) -> Result<Answer, NoMemory>
         requires pages { site.now.pages ≡ length self.old.pages }
         requires term { site.now.store.term ≡ 1 }
-        requires down { self.old.up ≡ false }
-        requires incarnation { incarnation ≡ self.old.kept.master.incarnation + 1 }
+        requires up { self.old.up ≡ true }
+        requires leads { self.old.leads ≡ false }
+        requires follows { (self.old.state == 1) ≡ false }
+        requires least { 1 ≤ self.old.kept.master.incarnation }
         ensures none { OnOk result (promotion_records site.now.pages 1 (records self.old) ≡ []) }
-        ensures answer { IfOk result (λ a. a ≡ (starts_first (here_among site.now modes.now) self.old []).answer) }
-        ensures after { OnOk result (self.new ≡ (starts_first (here_among site.now modes.now) self.old []).after) }
+        ensures answer { IfOk result (λ a. a ≡ (starts_first (here_among site.now modes.now) (asleep self.old) []).answer) }
+        ensures after { OnOk result (self.new ≡ (starts_first (here_among site.now modes.now) (asleep self.old) []).after) }
         ensures pages { length self.new.pages ≡ length self.old.pages }
     {
-        let end = self.log.end();
-        let records = self.log.records();
+        let end = self.home.end();
+        let records = self.home.records();
         let used = used_in(alloc, site.pages, records)?;
         let peers = strangers(alloc, modes.len())?;
         let last = last_txn(records);
@@ -217,12 +237,7 @@ impl Node {
         self.buffer = ListOf::new(alloc);
         self.buffered = 0;
         self.stripes = Stripes::all_at(end);
-        self.activity = Activity {
-            up: true,
-            leads: true,
-            follows: false,
-            incarnation,
-        };
+        self.home.stand(true);
         Ok(Answer::Started {
             role: Role::Primary,
             term: TERM,
@@ -255,7 +270,7 @@ impl Node {
     fn role(&self) -> Role
         ensures { result ≡ role_of self.now }
     {
-        if self.activity.leads {
+        if self.leads() {
             Role::Primary
         } else {
             Role::Secondary

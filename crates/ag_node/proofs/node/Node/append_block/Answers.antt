@@ -1,29 +1,28 @@
-use Rattle.std.proofs.Common.{◌≡◌, ◌<◌, List, length, false, refl, ap, subst, sym, ◌∙◌}
+use Rattle.std.proofs.Common.{◌≡◌, List, length, false, refl, ap, subst, sym, ◌∙◌}
 use Rattle.ag_model.specs.declared.record.Record.{Record}
 use Rattle.ag_model.specs.Blocks.{with_block}
-use Rattle.ag_node.specs.View.{node_of}
-use Rattle.ag_node.specs.Nodes.{leading_of}
 use Rattle.ag_rules.specs.Replica.{Replica}
-use Rattle.ag_built.specs.Whole.{IsWhole}
 use Rattle.ag_logstore.proofs.Fitting.{payload_some}
-use Rattle.ag_node.proofs.NodeSteps.{node_same, node_after_block}
+use Rattle.ag_kept.specs.declared.reach.Reach.TheVariants.{Stop}
+use Rattle.ag_node.specs.Homes.{Home, hardened_home, with_more}
+use Rattle.ag_node.specs.Nodes.{IsNode}
+use Rattle.ag_node.proofs.NodeSteps.{node_after_block}
+use Rattle.ag_node.proofs.HomeSteps.{node_down_with, node_stopped}
 use Rattle.ag_node.proofs.node.Node.append_block.Goals as goal
 
 pub invariant_of-self : goal.invariant_of-self
 invariant_of-self c =
     let n = c.self.inside in
-    node_same n.activity n.log c.append.new.self n.stripes _ _ n.buffer n.buffer n.buffered n.last_txn n.used.items c.self.invariant c.in_err-append.ensures.err refl refl
+    let new : List Record = c.args.block.now.records in
+    let home : c.harden.new.self ≡ with_more n.home new = c.in-Ok-End.ensures.home ∙ ap (hardened_home n.home new) c.in-Ok-End.field-0-is in
+    let follows : n.home.activity.leads ≡ false = ap (λ (x : Replica). x.leads) c.self.view_is ∙ c.requires.follows in
+    subst (λ (x : Home). IsNode x.activity x.log n.stripes (length n.dirty.items) n.buffer n.buffered n.last_txn n.used.items) (sym home)
+    (node_after_block n.home.activity n.home.log (with_block n.home.log new) n.stripes (length n.dirty.items) n.buffer new n.buffered n.last_txn n.used.items c.self.invariant (payload_some new c.requires.fits) follows c.requires.whole refl)
 
-pub returns-clause-after : goal.returns-clause-after
-returns-clause-after c =
+pub invariant_of-self-in-Ok-Stop : goal.invariant_of-self-in-Ok-Stop
+invariant_of-self-in-Ok-Stop c =
     let n = c.self.inside in
-    (λ i. node_of n.activity (c.in_ok-append.ensures.ok i) n.stripes n.dirty.items (leading_of n.buffer n.last_txn n.synced n.peers.items))
-    ∙ (λ i. record (c.self.view_is i) { kept = record (c.self.view_is i).kept { log = with_block (c.self.view_is i).kept.log (c.in_ok-records.ensures i) } })
-
-pub invariant_of-self-2 : goal.invariant_of-self-2
-invariant_of-self-2 c =
-    let n = c.self.inside in
-    let follows : n.activity.leads ≡ false = ap (λ (x : Replica). x.leads) c.self.view_is ∙ c.requires.follows in
-    let copy : c.in_ok-records.records ≡ c.args.new.now = c.in_ok-records.ensures in
-    node_after_block n.activity n.log c.append.new.self n.stripes (length n.dirty.items) n.buffer c.in_ok-records.records n.buffered n.last_txn n.used.items c.self.invariant
-    (subst (λ (x : List Record). 0 < length x) (sym copy) (payload_some c.args.new.now c.requires.fits)) follows (subst IsWhole (sym copy) c.requires.whole) c.in_ok-append.ensures.ok
+    let new : List Record = c.args.block.now.records in
+    let home : c.harden.new.self ≡ hardened_home n.home new (Stop c.in-Ok-Stop.whole) = c.in-Ok-Stop.ensures.home ∙ ap (hardened_home n.home new) c.in-Ok-Stop.field-0-is in
+    node_stopped n.home c.harden.new.self n.stripes (length n.dirty.items) n.buffer new n.buffered n.last_txn n.used.items (Stop c.in-Ok-Stop.whole)
+    (node_down_with n.home.activity n.home.log n.stripes (length n.dirty.items) n.buffer n.buffered n.last_txn n.used.items c.self.invariant) (payload_some new c.requires.fits) c.requires.whole (λ e. cc) home

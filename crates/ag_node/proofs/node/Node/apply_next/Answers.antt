@@ -13,15 +13,15 @@ returns-clause-after c =
     let high = c.end_after-next.result in
     let long : length c.mark.new.dirty ≡ n.dirty.len = omega (arith, c.mark.auto.dirty, c.as_mut_slice.ensures.len) in
     let between : low + (high - low) ≡ high = omega (arith, c.end_after-next.ensures.least) in
-    let new : take (high - low) (drop low n.log.records) ≡ after_to low high n.log.records
-    = sym (drop-take low (high - low) n.log.records) ∙ ap (λ m. drop low (take m n.log.records)) between in
-    node_applied n.activity n.log n.stripes c.apply.new.self n.dirty.items _ n.buffer n.last_txn n.synced n.peers.items c.args.self.now c.args.pages c.args.x high
-    c.self.view_is c.requires.pages (c.end_after-next.ensures.end ∙ ap (λ lsn. next_end lsn n.log.ends) c.applied-applied.ensures) c.apply.ensures
+    let new : take (high - low) (drop low n.home.log.records) ≡ after_to low high n.home.log.records
+    = sym (drop-take low (high - low) n.home.log.records) ∙ ap (λ m. drop low (take m n.home.log.records)) between in
+    node_applied n.home.activity n.home.log n.stripes c.apply.new.self n.dirty.items _ n.buffer n.last_txn n.synced n.peers.items c.args.self.now c.args.pages c.args.x high
+    c.self.view_is c.requires.pages (c.end_after-next.ensures.end ∙ ap (λ lsn. next_end lsn n.home.log.ends) c.applied-applied.ensures) c.apply.ensures
     (with_items_is n.dirty c.mark.new.dirty long ∙ c.mark.ensures
     ∙ (λ i. marked_of (Some c.args.x) (take (high - low) (drop low (c.records.ensures i))) (c.as_mut_slice.ensures.value i))
-    ∙ ap (λ (rs : List Record). marked_of (Some c.args.x) rs n.dirty.items) (new ∙ ap (λ lsn. after_to lsn high n.log.records) c.applied-applied.ensures))
+    ∙ ap (λ (rs : List Record). marked_of (Some c.args.x) rs n.dirty.items) (new ∙ ap (λ lsn. after_to lsn high n.home.log.records) c.applied-applied.ensures))
 
 pub returns-clause-writes : goal.returns-clause-writes
 returns-clause-writes c =
     let n = c.self.inside in
-    applies_nothing n.activity n.log n.stripes n.dirty.items n.buffer n.last_txn n.synced n.peers.items c.args.self.now c.args.pages c.args.x c.self.view_is c.requires.pages
+    applies_nothing n.home.activity n.home.log n.stripes n.dirty.items n.buffer n.last_txn n.synced n.peers.items c.args.self.now c.args.pages c.args.x c.self.view_is c.requires.pages

@@ -12,4 +12,4 @@ returns-clause-built c =
     let small = subst (λ (x : Replica). records_size (after_to (c.args.first - 1) c.args.last (records x)) ≤ 15488) (sym c.self.view_is) c.requires.small in
     let within = subst (λ (x : Replica). c.args.last ≤ end x) (sym c.self.view_is) c.requires.bounds.2 in
     let copy : c.in_ok-copy_block.field-0 ≡ after_to (c.args.first - 1) c.args.last (records c.args.self.now) = c.in_ok-copy_block.ensures.is ∙ ap (λ (x : Replica). after_to (c.args.first - 1) c.args.last (records x)) c.self.view_is in
-    (subst IsWhole (sym copy) c.requires.whole, (omega arith, (omega arith, omega arith, payload_copy (c.args.first - 1) c.args.last n.log.records c.in_ok-copy_block.field-0 c.in_ok-copy_block.ensures.fits c.in_ok-copy_block.ensures.is (omega arith) within small)))
+    (subst IsWhole (sym copy) c.requires.whole, (omega arith, (omega arith, omega arith, payload_copy (c.args.first - 1) c.args.last n.home.log.records c.in_ok-copy_block.field-0 c.in_ok-copy_block.ensures.fits c.in_ok-copy_block.ensures.is (omega arith) within small)))
