@@ -1,5 +1,5 @@
 -- A node whose home changes.
-use Rattle.std.proofs.Common.{◌≡◌, ℕ, ◌+◌, ◌-◌, ◌<◌, ◌≤◌, List, [], ◌++◌, length, Bool, true, false, refl, sym, ap, ◌∙◌, subst, arith}
+use Rattle.std.proofs.Common.{◌≡◌, ℕ, ◌+◌, ◌-◌, ◌<◌, ◌≤◌, List, [], length, Bool, true, false, refl, sym, ap, ◌∙◌, subst, arith}
 use Rattle.std.specs.Prelude.{◌==◌, if◌then◌else◌}
 use Rattle.ag_model.specs.declared.record.Record.{Record}
 use Rattle.ag_model.specs.declared.record.Log.{Log}
@@ -8,16 +8,15 @@ use Rattle.ag_model.specs.Blocks.{with_block}
 use Rattle.ag_model.specs.Sizes.{records_size}
 use Rattle.ag_record.specs.Spelling.{HaveSpelling}
 use Rattle.ag_rules.specs.Replica.{Replica, Leading, Stripe, fallen}
-use Rattle.ag_rules.specs.Plan.{Here, Write, Block_write, Master_write, written, refused}
+use Rattle.ag_rules.specs.Plan.{Here, Block_write, Master_write, written, refused}
 use Rattle.ag_rules.specs.Promotion.{blocks_of, is_spent}
 use Rattle.ag_rules.specs.StartEvent.{start_part, started_master}
 use Rattle.ag_rules.specs.Replica.{end}
 use Rattle.ag_built.specs.Whole.{IsWhole}
 use Rattle.ag_kept.specs.declared.reach.Reach.{Reach}
 use Rattle.ag_kept.specs.declared.reach.Reach.TheVariants.{End, Stop, Fault}
-use Rattle.ag_logstore.specs.LogKept.{RisesTo}
 use Rattle.ag_node.specs.Activity.{Activity}
-use Rattle.ag_node.specs.Homes.{Home, hardened_home, started_home, lost_home}
+use Rattle.ag_node.specs.Homes.{Home, hardened_home}
 use Rattle.ag_node.specs.View.{node_of, kept_of, state_of}
 use Rattle.ag_node.specs.Nodes.{IsActivity, IsNode}
 use Rattle.ag_node.specs.Starting.{asleep, raised_one, woken_up}

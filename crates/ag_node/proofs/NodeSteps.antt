@@ -108,14 +108,6 @@ all_set P (x ∷ xs) (suc i) new each p = cons_all P x (set xs i new) (each 0 x 
 pub one_within : (end x : ℕ) (ss ss' : List Stripe) (new : Stripe) → length ss ≡ 16 → All (IsWithin end) ss → ss' ≡ set ss x new → IsWithin end new → (length ss' ≡ 16) × All (IsWithin end) ss'
 one_within end x ss ss' new sixteen redone is within = subst (λ (y : List Stripe). (length y ≡ 16) × All (IsWithin end) y) (sym is) (length-set ss x new ∙ sixteen, all_set (IsWithin end) ss x new redone within)
 
--- what a node says of itself stays true where its log, its pages and its buffer are the same
-pub node_same : (activity : Activity) (log log' : Log) (ss : List Stripe) (pages pages' : ℕ) (buffer buffer' : List Record) (bytes txn : ℕ) (used : List ℕ)
-    → IsNode activity log ss pages buffer bytes txn used → log' ≡ log → pages' ≡ pages → buffer' ≡ buffer → IsNode activity log' ss pages' buffer' bytes txn used
-node_same activity log log' ss pages pages' buffer buffer' bytes txn used h l p b =
-    subst (λ (x : Log). IsNode activity x ss pages' buffer' bytes txn used) (sym l)
-    (subst (λ (x : ℕ). IsNode activity log ss x buffer' bytes txn used) (sym p)
-    (subst (λ (x : List Record). IsNode activity log ss pages x bytes txn used) (sym b) h))
-
 -- a block of whole transactions goes into a log of the first term
 first_grows : (log : Log) (new : List Record) → IsFirstTerm log → 0 < length new → IsWhole new → IsFirstTerm (with_block log new)
 first_grows log new h k w = record {
@@ -273,24 +265,3 @@ read_nothing activity log ss ds buffer txn synced peers r h key is =
     (λ i. (reads_at h (sym is i) (front (sym is i)) key).writes)
     ∙ ap (λ (x : Part). x.writes) (reads_is activity log ss ds buffer txn synced peers h key)
     ∙ no_writes _ (refused (TooOld (front_of ss) (value h.pages log.records (get_or ss (stripe_of (page_of h.pages key)) no_stripe).applied (page_of h.pages key)).horizon) n) (at_once (row_answer (front_of ss) (rows log.records (front_of ss) key)) n) refl refl
-
--- a buffer that becomes a block, while the stripes stay
-pub node_after_keeping : (activity : Activity) (log log' : Log) (ss : List Stripe) (pages : ℕ) (buffer buffer' : List Record) (bytes txn : ℕ) (used : List ℕ)
-    → IsNode activity log ss pages buffer bytes txn used → 0 < length buffer → log' ≡ with_block log buffer → buffer' ≡ [] → IsNode activity log' ss pages buffer' 0 txn used
-node_after_keeping activity log log' ss pages buffer buffer' bytes txn used h k l b =
-    let records : log'.records ++ buffer' ≡ log.records ++ buffer = (λ i. (l i).records ++ b i) ∙ append-nil (log.records ++ buffer) in
-    let longer : length log.records ≤ length log'.records = omega (arith, ap (λ (x : Log). length x.records) l, length-append log.records buffer) in
-    record {
-      stands = h.stands;
-      first = subst IsFirstTerm (sym l) (first_grows log buffer h.first k h.whole);
-      whole = subst IsWhole (sym b) whole_nil;
-      some_pages = h.some_pages;
-      few_pages = h.few_pages;
-      sixteen = h.sixteen;
-      redone = λ k d i. (omega (arith, (h.redone k d i).0, longer), omega (arith, (h.redone k d i).1, longer));
-      counted = sym (ap records_size b);
-      most = omega arith;
-      fits = subst HaveSpelling (sym b) tt;
-      room = λ e. subst (λ (x : List Record). IsSetLog pages txn x used) (sym records) (h.room e);
-      small = h.small;
-    }

@@ -1,7 +1,7 @@
 -- A node that crashes and starts, from its parts.
 use Rattle.std.proofs.lemmas.Bool.{cases_Bool}
 use Rattle.std.proofs.Common.{inl, inr, ◌⊎◌, ◌≡◌, ℕ, zero, suc, ◌+◌, ◌<◌, ◌≤◌, List, [], ◌∷◌, ◌++◌, length, drop, map, replicate, Bool, true, false, refl, sym, ap, ap₂, ◌∙◌, subst, arith}
-use Rattle.std.specs.Prelude.{max, nat_le, nat_lt, ◌==◌, if◌then◌else◌}
+use Rattle.std.specs.Prelude.{max, nat_le, nat_lt, if◌then◌else◌}
 use Rattle.std.specs.List.{filter, list_any, All}
 use Rattle.std.proofs.lemmas.Bool.{le-leb, false_from_ne_true, ltb-true}
 use Rattle.std.proofs.lemmas.List.{length-map, append-nil, take_all}
@@ -12,14 +12,14 @@ use Rattle.ag_model.specs.declared.answer.Answer.{Answer}
 use Rattle.ag_model.specs.declared.answer.Answer.TheVariants.{Started}
 use Rattle.ag_model.specs.declared.answer.Role.TheVariants.{Primary, Secondary}
 use Rattle.ag_model.specs.Blocks.{cut_at}
-use Rattle.ag_model.specs.Rows.{touches, page_numbers}
+use Rattle.ag_model.specs.Rows.{touches}
 use Rattle.ag_model.specs.Starts.{last_term}
 use Rattle.ag_model.specs.Txns.{last_txn}
-use Rattle.ag_rules.specs.Replica.{Replica, Leading, Page, Peer, Stripe, Master, all_at, applied_of, clean_page, end, fallen, is_reverting, no_leading, no_peer, no_stripe, records}
-use Rattle.ag_rules.specs.Plan.{Here, Part, Write, Master_write, unless, writing, written}
-use Rattle.ag_rules.specs.Redo.{redone, touched_up_to, notes_of}
-use Rattle.ag_rules.specs.Promotion.{blocks_of, is_spent, leads_now, new_leading, promotion_records, promotion_touches, promotion_writes}
-use Rattle.ag_rules.specs.StartEvent.{start_part, start_part_with, start_writes, starts, starts_first, starts_second, start_records, is_named, woken, started_master}
+use Rattle.ag_rules.specs.Replica.{Replica, Leading, Page, Peer, Stripe, Master, all_at, applied_of, clean_page, end, fallen, is_reverting, no_leading, no_peer, records}
+use Rattle.ag_rules.specs.Plan.{Here, Part, Write, Master_write, writing, written}
+use Rattle.ag_rules.specs.Redo.{redone, touched_up_to}
+use Rattle.ag_rules.specs.Promotion.{blocks_of, is_spent, new_leading, promotion_records, promotion_touches}
+use Rattle.ag_rules.specs.StartEvent.{start_part, start_part_with, start_writes, starts_first, starts_second, start_records, is_named, woken, started_master}
 use Rattle.ag_node.specs.Activity.{Activity}
 use Rattle.ag_node.specs.View.{node_of, kept_of, page_of_flag, state_of}
 use Rattle.ag_node.specs.Starting.{CanStart}

@@ -1,5 +1,5 @@
 -- What a node keeps on its disk, and where it stands.
-use Rattle.std.specs.Prelude.{ℕ, ◌+◌, List, [], ◌∷◌, Bool, true, false, not, Option, Some, None, if◌then◌else◌}
+use Rattle.std.specs.Prelude.{◌+◌, List, [], ◌∷◌, Bool, true, false, not, Option, Some, None, if◌then◌else◌}
 use Rattle.ag_model.specs.declared.record.Record.{Record}
 use Rattle.ag_model.specs.declared.record.Record.TheVariants.{Term}
 use Rattle.ag_model.specs.declared.record.Log.{Log}

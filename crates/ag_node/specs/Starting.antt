@@ -1,5 +1,5 @@
 -- When a replica can start.
-use Rattle.std.specs.Prelude.{◌≡◌, ◌+◌, ◌-◌, Bool, true, false, if◌then◌else◌}
+use Rattle.std.specs.Prelude.{◌≡◌, ◌+◌, ◌-◌, true, false, if◌then◌else◌}
 use Rattle.ag_rules.specs.Replica.{Replica, is_reverting}
 use Rattle.ag_rules.specs.Promotion.{is_spent}
 use Rattle.ag_kept.specs.declared.reach.Reach.{Reach}

@@ -134,7 +134,12 @@ impl Home {
     }
 
     /// The records from one LSN to another.
-    pub(crate) fn copy_block(&self, alloc: Global, first: u64, last: u64) -> Result<RecordList, NoMemory>
+    pub(crate) fn copy_block(
+        &self,
+        alloc: Global,
+        first: u64,
+        last: u64,
+    ) -> Result<RecordList, NoMemory>
         requires up { self.now.activity.up ≡ true }
         requires from { 1 ≤ first }
         requires order { first ≤ last + 1 }

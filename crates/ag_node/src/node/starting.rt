@@ -97,11 +97,7 @@ impl Node {
 
     /// Why it can't start, if it can't.
     #[tactic(auto, unfolding(ag_rules::specs::StartEvent::start_part))]
-    fn start_refusal(
-        &mut self,
-        site: &Site,
-        modes: &[Mode],
-    ) -> Result<Option<Refusal>, NoMemory>
+    fn start_refusal(&mut self, site: &Site, modes: &[Mode]) -> Result<Option<Refusal>, NoMemory>
         requires pages { site.now.pages ≡ length self.old.pages }
         requires term { site.now.store.term ≡ 1 }
         ensures part { IfOk result (λ w. IfSome w (λ why. start_part (here_among site.now modes.now) self.old ≡ refused why self.old)) }
@@ -196,7 +192,11 @@ impl Node {
     {
         let _ = pages;
         let end = self.home.end();
-        mark_to_end(self.dirty.as_mut_slice(), &self.stripes, self.home.records());
+        mark_to_end(
+            self.dirty.as_mut_slice(),
+            &self.stripes,
+            self.home.records(),
+        );
         self.stripes = Stripes::all_at(end);
         Answer::Started {
             role: Role::Secondary,

@@ -1,7 +1,6 @@
-use Rattle.std.proofs.Common.{◌≡◌, ◌+◌, ◌∙◌, List, drop, sym, ap}
+use Rattle.std.proofs.Common.{◌+◌, ◌∙◌, drop, sym, ap}
 use Rattle.std.specs.List.{fold}
 use Rattle.std.proofs.lemmas.List.{drop_all, drop_more}
-use Rattle.ag_model.specs.declared.record.Record.{Record}
 use Rattle.ag_node.specs.Folded.{txn_after}
 use Rattle.ag_node.proofs.Folds.{txns_folded}
 use Rattle.ag_node.proofs.txns.last_txn.Goals as goal

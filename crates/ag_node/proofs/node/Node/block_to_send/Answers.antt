@@ -1,4 +1,4 @@
-use Rattle.std.proofs.Common.{◌-◌, ap, subst}
+use Rattle.std.proofs.Common.{◌-◌, subst}
 use Rattle.std.specs.Prelude.{IfSome}
 use Rattle.ag_model.specs.Blocks.{after_to}
 use Rattle.ag_rules.specs.Replica.{Replica, records}

@@ -1,4 +1,4 @@
-use Rattle.std.proofs.Common.{◌≡◌, ◌∙◌, false, replicate, ap}
+use Rattle.std.proofs.Common.{◌∙◌, false, replicate, ap}
 use Rattle.ag_node.specs.View.{node_of}
 use Rattle.ag_node.specs.Nodes.{leading_of}
 use Rattle.ag_node.proofs.StartSteps.{node_fell}

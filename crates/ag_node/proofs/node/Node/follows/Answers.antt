@@ -1,4 +1,4 @@
-use Rattle.std.proofs.Common.{◌≡◌, sym, ap, ◌∙◌}
+use Rattle.std.proofs.Common.{sym, ap, ◌∙◌}
 use Rattle.ag_rules.specs.Replica.{Replica}
 use Rattle.ag_node.proofs.HomeSteps.{up_by_following}
 use Rattle.ag_node.proofs.node.Node.follows.Goals as goal

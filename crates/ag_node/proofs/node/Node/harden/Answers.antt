@@ -1,13 +1,12 @@
-use Rattle.std.proofs.Common.{◌≡◌, ◌+◌, ◌∙◌, refl, ap, sym, subst, arith}
-use Rattle.std.specs.Prelude.{Option, None, MatchOption}
+use Rattle.std.proofs.Common.{◌≡◌, ◌∙◌, refl, ap, sym, subst, arith}
+use Rattle.std.specs.Prelude.{Option, MatchOption}
 use Rattle.ag_model.specs.declared.answer.Refusal.{Refusal}
 use Rattle.ag_model.specs.declared.answer.Answer.TheVariants.{Hardened}
-use Rattle.ag_rules.specs.Replica.{Replica, full_end}
+use Rattle.ag_rules.specs.Replica.{full_end}
 use Rattle.ag_rules.specs.Plan.{Part, Block_write, refused}
 use Rattle.ag_rules.specs.Redo.{due_pages}
 use Rattle.ag_rules.specs.HardenEvent.{harden_part, hardens, hardened_one}
 use Rattle.ag_kept.specs.declared.reach.Reach.{Reach}
-use Rattle.ag_kept.specs.declared.reach.Reach.TheVariants.{End, Stop, Fault}
 use Rattle.ag_node.specs.Reaching.{part_reached}
 use Rattle.ag_node.specs.Sites.{here_at}
 use Rattle.ag_node.proofs.Cutting.{cut_at_block}

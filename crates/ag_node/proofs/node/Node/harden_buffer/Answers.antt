@@ -1,4 +1,4 @@
-use Rattle.std.proofs.Common.{◌≡◌, ◌==◌, List, [], length, refl, ap, sym, subst, ◌∙◌, arith}
+use Rattle.std.proofs.Common.{◌≡◌, ◌==◌, List, length, refl, ap, sym, subst, ◌∙◌, arith}
 use Rattle.std.specs.Vec.{with_items}
 use Rattle.std.proofs.lemmas.List.{with_items_is, length-append}
 use Rattle.ag_model.specs.declared.record.Record.{Record}
@@ -7,7 +7,7 @@ use Rattle.ag_record.specs.Spelling.{ArePayload}
 use Rattle.ag_rules.specs.Plan.{Block_write}
 use Rattle.ag_rules.specs.Replica.{Replica, all_at, fallen}
 use Rattle.ag_logstore.proofs.Fitting.{payload_buffer, payload_some}
-use Rattle.ag_kept.specs.declared.reach.Reach.TheVariants.{Stop, Fault}
+use Rattle.ag_kept.specs.declared.reach.Reach.TheVariants.{Stop}
 use Rattle.ag_node.specs.Homes.{Home, hardened_home, with_more, down_home}
 use Rattle.ag_node.specs.Marked.{marked}
 use Rattle.ag_node.specs.Nodes.{IsNode, leading_of}

@@ -1,10 +1,10 @@
-use Rattle.std.proofs.Common.{◌≡◌, ◌+◌, ◌==◌, ◌≤◌, ◌∙◌, [], ◌∷◌, false, ap, sym, subst, refl, arith}
+use Rattle.std.proofs.Common.{◌≡◌, ◌+◌, ◌==◌, ◌∙◌, [], ◌∷◌, false, ap, sym, subst, arith}
 use Rattle.std.specs.Prelude.{Option, IfNone}
 use Rattle.ag_model.specs.declared.answer.Refusal.{Refusal}
 use Rattle.ag_rules.specs.Plan.{Part, Master_write, written}
 use Rattle.ag_rules.specs.Replica.{Replica, end, fallen}
 use Rattle.ag_rules.specs.StartEvent.{start_part, started_master}
-use Rattle.ag_kept.specs.declared.reach.Reach.TheVariants.{End, Stop, Fault}
+use Rattle.ag_kept.specs.declared.reach.Reach.TheVariants.{End, Stop}
 use Rattle.ag_node.specs.Sites.{here_among}
 use Rattle.ag_node.specs.Nodes.{leading_of}
 use Rattle.ag_node.specs.Starting.{CanStart, asleep, raised_one, woken_up}

@@ -5,7 +5,6 @@ use Rattle.ag_rules.specs.Promotion.{is_spent}
 use Rattle.ag_node.specs.View.{state_of}
 use Rattle.ag_node.specs.Nodes.{leading_of}
 use Rattle.ag_node.specs.Sites.{here_among}
-use Rattle.ag_node.specs.Starting.{CanStart}
 use Rattle.ag_node.proofs.StartSteps.{can_start, start_writes_are}
 use Rattle.ag_node.proofs.HomeSteps.{starts_spent}
 use Rattle.ag_node.proofs.node.Node.start_refusal.Goals as goal

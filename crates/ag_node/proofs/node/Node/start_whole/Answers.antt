@@ -1,4 +1,4 @@
-use Rattle.std.proofs.Common.{◌≡◌, ◌∙◌, sym, ap, eq-eqb, ne_eqb}
+use Rattle.std.proofs.Common.{◌∙◌, sym, ap, eq-eqb, ne_eqb}
 use Rattle.ag_rules.specs.Plan.{Part}
 use Rattle.ag_rules.specs.Promotion.{promotion_records}
 use Rattle.ag_rules.specs.Replica.{records}
