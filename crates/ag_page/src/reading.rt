@@ -153,6 +153,7 @@ fn page_of(alloc: Global, b: &[u8]) -> Result<PageValue, PageFault>
     ensures range { IfOk result (λ v. IsInRange v) }
     ensures bytes { IfOk result (λ v. b.now ≡ page_bytes v) }
     ensures only { (v : PageValue) → has_image v ≡ true → IsInRange v → b.now ≡ page_bytes v → Answers result (Ok v) }
+    ensures exact { Answers result (page_at b.now) }
 {
     page_in(alloc, b)
 }
@@ -167,6 +168,9 @@ pub fn from_image(alloc: Global, i: &Image) -> Result<PageValue, PageFault>
 
     // What has these bytes is read, unless memory runs out: so NotPage says that no page value has them.
     ensures only { (v : PageValue) → has_image v ≡ true → IsInRange v → image_bytes i.now ≡ page_bytes v → Answers result (Ok v) }
+
+    // It is what reading the bytes from left to right gives.
+    ensures exact { Answers result (page_at (image_bytes i.now)) }
 {
     page_of(alloc, &joined(i))
 }

@@ -1,0 +1,11 @@
+pub mod Slots
+pub mod Redone
+pub mod Readings
+pub mod Visits
+pub mod Images
+pub mod Touches
+pub mod Ahead
+pub mod Rows
+pub mod Blocks
+pub mod Fitting
+pub mod Examples

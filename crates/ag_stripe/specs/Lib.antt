@@ -1,0 +1,9 @@
+pub mod Tables
+pub mod Known
+pub mod Reading
+pub mod Ahead
+pub mod Redo
+pub mod Visits
+pub mod Answers
+pub mod Standing
+pub mod Spelled
