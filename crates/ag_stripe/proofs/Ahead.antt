@@ -1,6 +1,6 @@
 -- Redo takes each page on to its next value, or leaves it where it is ahead.
-use Rattle.std.proofs.Common.{◌≡◌, ℕ, ◌+◌, ◌-◌, ◌<◌, ◌≤◌, Bool, true, false, cond, ◌&&◌, ◌||◌, eqb, List, [], ◌∷◌, ◌++◌, length, get_or, take, refl, sym, ap, subst, ◌∙◌, inl, inr, arith}
-use Rattle.std.specs.Prelude.{Option, Some, None}
+use Rattle.std.proofs.Common.{◌≡◌, ℕ, ◌+◌, ◌-◌, ◌<◌, ◌≤◌, Bool, true, false, cond, ◌&&◌, ◌||◌, List, [], ◌∷◌, length, get_or, take, refl, sym, ap, subst, ◌∙◌, inl, inr, arith}
+use Rattle.std.specs.Prelude.{Option, Some}
 use Rattle.std.specs.List.{list_any}
 use Rattle.std.proofs.lemmas.Bool.{cases_Bool, eqb-true}
 use Rattle.std.proofs.lemmas.List.Sums.{sum_by-append}
@@ -26,8 +26,9 @@ use Rattle.ag_stripe.specs.declared.fault.StripeFault.TheVariants.{Bad, Pending,
 use Rattle.ag_stripe.specs.Tables.{Table, IsSameTable, is_own, slot_of, is_dirty}
 use Rattle.ag_stripe.specs.Known.{Told, Known, known_by, known}
 use Rattle.ag_stripe.specs.Known.Known.{Value}
-use Rattle.ag_stripe.specs.Ahead.{IsAhead}
-use Rattle.ag_stripe.specs.Redo.{after_record, redone, redone_value, redone_slot, HasRoom, CanTake, IsRefusal, is_touched, IsKept, AreKept, StandAfter, IsUnlawful}
+use Rattle.ag_stripe.specs.Ahead.{IsAhead, AreNext}
+use Rattle.ag_stripe.specs.Redo.{after_record, redone, redone_value, redone_slot, HasRoom, CanTake, IsRefusal, is_touched, IsKept, AreKept, IsUnlawful}
+use Rattle.ag_stripe.proofs.Nexts.{stand-at}
 use Rattle.ag_stripe.proofs.Slots.{owns}
 use Rattle.ag_stripe.proofs.Readings.{own-same}
 use Rattle.ag_stripe.proofs.Visits.{any-front, any-more}
@@ -182,18 +183,18 @@ dirty-more-records start old new lsn i records r same lt there h inv q =
 
 -- one record more of a block
 module _ (start old new : Table) (applied lsn i : ℕ) (records : List Record) (r : Record) (same : IsSameTable start old) (lt : i < length records) (there : r ≡ get_or records i r) (here : lsn ≡ applied + i) (kept : (q : ℕ) → IsKept start q → IsKept old q) where
-  standing : (log : Log) → StandAfter start.pages log applied records → IsAt log.records (lsn + 1) r
+  standing : (log : Log) → AreNext start.pages applied log records → IsAt log.records (lsn + 1) r
   standing log h =
       let e : applied + i + 1 ≡ lsn + 1 = omega arith in
-      subst (λ (n : ℕ). IsAt log.records n r) e (subst (IsAt log.records (applied + i + 1)) (sym there) (h.each i r lt))
+      subst (λ (n : ℕ). IsAt log.records n r) e (stand-at applied i log.records records r lt there h.reach h.stand)
 
-  within : (log : Log) → StandAfter start.pages log applied records → lsn + 1 ≤ end_of log
+  within : (log : Log) → AreNext start.pages applied log records → lsn + 1 ≤ end_of log
   within log h = (let far = h.reach in omega arith)
 
   touched : (page : ℕ) → is_own start page ≡ true → touches start.pages page r ≡ true → is_touched start records page ≡ true
   touched page own on = and-right (is_own start page) (list_any (touches start.pages page) records) own (any-front (touches start.pages page) records i r lt (ap (touches start.pages page) (sym there) ∙ on))
 
-  pub values-step : Redone old new (lsn + 1) r → (told : Told) (log : Log) (page : ℕ) → StandAfter start.pages log applied records → AreKept start records → is_own start page ≡ true
+  pub values-step : Redone old new (lsn + 1) r → (told : Told) (log : Log) (page : ℕ) → AreNext start.pages applied log records → AreKept start records → is_own start page ≡ true
       → IsAhead start.pages log lsn page (known told old page) → IsAhead start.pages log (lsn + 1) page (known told new page)
   values-step h told log page stand all own ahead =
       let o = owns start page own in
@@ -210,7 +211,7 @@ module _ (start old new : Table) (applied lsn i : ℕ) (records : List Record) (
       by_test false = refl
 
   pub refused-step : (e : StripeFault) → IsRefusal (lsn + 1) r old e
-      → ((told : Told) (log : Log) (page : ℕ) → StandAfter start.pages log applied records → AreKept start records → is_own start page ≡ true → IsAhead start.pages log applied page (known told start page) → IsAhead start.pages log lsn page (known told old page))
+      → ((told : Told) (log : Log) (page : ℕ) → AreNext start.pages applied log records → AreKept start records → is_own start page ≡ true → IsAhead start.pages log applied page (known told start page) → IsAhead start.pages log lsn page (known told old page))
       → IsUnlawful start applied records e
   refused-step (Unlawful page) (mine, on, full) values =
       let own : is_own start page ≡ true = sym (own-same start old same page) ∙ mine in

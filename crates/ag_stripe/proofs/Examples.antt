@@ -1,14 +1,12 @@
 -- Worked examples: stripe 5, row by row.
-use Rattle.std.proofs.Common.{◌≡◌, true, false, List, [], ◌∷◌, map, replicate, lit≤, refl}
+use Rattle.std.proofs.Common.{◌≡◌, true, false, [], ◌∷◌, map, replicate, lit≤, refl}
 use Rattle.std.specs.Prelude.{Some, None}
 use Rattle.ag_model.specs.declared.record.Log.{Log}
-use Rattle.ag_model.specs.declared.record.Record.{Record}
 use Rattle.ag_model.specs.declared.record.Record.TheVariants.{Put, Commit, Term}
 use Rattle.ag_model.specs.declared.value.Change.TheVariants.{Put as PutChange}
 use Rattle.ag_model.specs.declared.value.PageValue.{PageValue}
 use Rattle.ag_model.specs.declared.value.Value.{Value}
 use Rattle.ag_model.specs.Page.{value}
-use Rattle.ag_stripe.specs.declared.slot.Slot.{Slot}
 use Rattle.ag_stripe.specs.Ahead.{IsAhead}
 use Rattle.ag_stripe.specs.Known.{empty_page}
 use Rattle.ag_stripe.specs.Known.Known.{Value as HasValue}

@@ -1,12 +1,12 @@
 -- The value of a page of a proper log has an image.
-use Rattle.std.proofs.Common.{◌≡◌, ℕ, zero, suc, ◌+◌, ◌<◌, ◌≤◌, Bool, true, false, cond, ◌&&◌, eqb, leb, ltb, List, [], ◌∷◌, ◌++◌, take, refl, sym, ap, subst, ◌∙◌, inl, inr, arith}
-use Rattle.std.specs.List.{AllByRecursion, enumerate_from, filter, flat_map, list_all, list_any}
-use Rattle.std.proofs.lemmas.Bool.{cases_Bool, lt-ltb, le-leb}
+use Rattle.std.proofs.Common.{◌≡◌, ℕ, zero, suc, ◌+◌, ◌<◌, ◌≤◌, Bool, true, false, cond, ◌&&◌, eqb, leb, ltb, List, [], ◌∷◌, ◌++◌, take, refl, sym, subst, arith}
+use Rattle.std.specs.List.{enumerate_from, filter, flat_map, list_all, list_any}
+use Rattle.std.proofs.lemmas.Bool.{lt-ltb, le-leb}
 use Rattle.ag_model.specs.declared.record.Log.{Log}
 use Rattle.ag_model.specs.declared.record.Record.{Record}
 use Rattle.ag_model.specs.declared.record.Record.TheVariants.{Put, Del, Commit, Abort, Trim, Term}
 use Rattle.ag_model.specs.declared.value.Version.{Version}
-use Rattle.ag_model.specs.Page.{value, version_by, version_here, is_abort_of, all_versions, untrimmed, horizons, numbered}
+use Rattle.ag_model.specs.Page.{value, version_by, version_here, is_abort_of, all_versions}
 use Rattle.ag_model.specs.Proper.{IsProper}
 use Rattle.ag_model.specs.Rows.{page_of}
 use Rattle.ag_model.specs.Sizes.{versions_size}

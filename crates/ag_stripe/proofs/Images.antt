@@ -1,17 +1,17 @@
 -- Page values by their images.
-use Rattle.std.proofs.Common.{◌≡◌, ℕ, ◌+◌, ◌*◌, ◌<◌, ◌≤◌, Bool, true, false, List, [], ◌∷◌, ◌++◌, length, get_or, take, zero, suc, map, slice_index, refl, sym, ap, subst, ◌∙◌, inl, inr, arith}
-use Rattle.std.specs.Prelude.{Option, Some, None, Result, Ok, Err}
+use Rattle.std.proofs.Common.{◌≡◌, ℕ, List, [], ◌∷◌, map, refl, sym, ap, subst, ◌∙◌}
+use Rattle.std.specs.Prelude.{Option, Some, None, Ok}
 use Rattle.std.specs.Option.{IfSome}
 use Rattle.ag_model.specs.declared.value.PageValue.{PageValue}
 use Rattle.ag_page.specs.declared.fault.PageFault.{PageFault}
 use Rattle.ag_page.specs.declared.fault.PageFault.TheVariants.{NotPage, NoMemory}
 use Rattle.ag_page.specs.declared.home.Got.{Got}
-use Rattle.ag_page.specs.declared.home.Got.TheVariants.{Sound, Torn, Lost}
+use Rattle.ag_page.specs.declared.home.Got.TheVariants.{Sound}
 use Rattle.ag_page.specs.Home.{found, readable}
 use Rattle.ag_page.specs.Image.{image_bytes}
 use Rattle.ag_page.specs.Reading.{Fails, page_at}
 use Rattle.ag_stripe.specs.Known.{Told, Known, Says, at_place, as_read, bytes_of, in_image, by_found, in_home}
-use Rattle.ag_stripe.specs.Known.Known.{Value, NotSound, NotItsImage, Untold}
+use Rattle.ag_stripe.specs.Known.Known.{NotSound, NotItsImage}
 use Rattle.ag_stripe.proofs.Readings.{says-refl}
 
 -- an image that was read

@@ -2,8 +2,10 @@ pub mod Slots
 pub mod Redone
 pub mod Readings
 pub mod Visits
+pub mod Edits
 pub mod Images
 pub mod Touches
+pub mod Nexts
 pub mod Ahead
 pub mod Rows
 pub mod Blocks

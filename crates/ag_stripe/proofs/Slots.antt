@@ -1,7 +1,7 @@
 -- Where the pages of a stripe stand in its table.
-use Rattle.std.proofs.Common.{◌≡◌, ◌≢◌, ℕ, zero, suc, ◌+◌, ◌-◌, ◌*◌, ◌/◌, ◌%◌, ◌<◌, ◌≤◌, inl, inr, Bool, true, false, cond, eqb, leb, ltb, List, [], ◌∷◌, length, get_or, set, replicate, refl, sym, ap, ◌∙◌, subst, arith, ◌&&◌, ◌||◌}
+use Rattle.std.proofs.Common.{◌≡◌, ℕ, zero, suc, ◌+◌, ◌-◌, ◌*◌, ◌/◌, ◌%◌, ◌<◌, ◌≤◌, inl, inr, Bool, true, false, cond, eqb, leb, ltb, List, [], ◌∷◌, length, get_or, set, replicate, refl, sym, ap, ◌∙◌, arith, ◌&&◌, ◌||◌}
 use Rattle.std.proofs.lemmas.Bool.{and_parts, cases_Bool, false_from_ne_true, eqb-true, eq-eqb, leb-true, leb-false, ltb-true, ltb-false, false≢true, lt-ltb, le-ltb, le-leb}
-use Rattle.std.proofs.lemmas.Bool.Decides.{nat_tests, eqb_tells}
+use Rattle.std.proofs.lemmas.Bool.Decides.{eqb_tells}
 use Rattle.std.proofs.lemmas.List.{get_or-set_other}
 use Rattle.std.proofs.lemmas.Grind.{get_or-set_at}
 use Rattle.ag_model.specs.Rows.{contains, stripe_of}
@@ -10,7 +10,7 @@ use Rattle.ag_model.specs.PageSets.{pages_where, most_pages}
 use Rattle.ag_model.specs.PageBits.{contains-pages_where}
 use Rattle.ag_model.proofs.PageSets.{pages_where-agrees}
 use Rattle.ag_stripe.specs.declared.slot.Slot.{Slot}
-use Rattle.ag_stripe.specs.Tables.{Table, IsTable, is_own, page_count, place_of, empty_slot, slot_of, is_dirty, is_dirty_at, dirty_pages}
+use Rattle.ag_stripe.specs.Tables.{Table, IsTable, is_own, place_of, empty_slot, slot_of, is_dirty_at, dirty_pages}
 
 -- a page of the stripe
 pub record Owns (t : Table) (page : ℕ) : Type 0 where
@@ -53,7 +53,7 @@ at_own : (t : Table) (page : ℕ) → is_own t page ≡ true → slot_of t page 
 unfolding slot_of
 at_own t page e = rw e refl
 
-at_other : (t : Table) (page : ℕ) → is_own t page ≡ false → slot_of t page ≡ empty_slot
+pub at_other : (t : Table) (page : ℕ) → is_own t page ≡ false → slot_of t page ≡ empty_slot
 unfolding slot_of
 at_other t page e = rw e refl
 

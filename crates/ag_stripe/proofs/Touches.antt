@@ -1,11 +1,10 @@
 -- The LSN of a page value: the last one whose record touches the page.
-use Rattle.std.proofs.Common.{◌≡◌, ℕ, zero, suc, ◌+◌, ◌-◌, ◌<◌, ◌≤◌, Bool, true, false, cond, List, [], ◌∷◌, length, get_or, take, refl, sym, ap, subst, ◌∙◌, arith}
-use Rattle.std.specs.Prelude.{Some, slice_get}
+use Rattle.std.proofs.Common.{◌≡◌, ℕ, zero, suc, ◌+◌, ◌-◌, ◌<◌, ◌≤◌, Bool, true, false, cond, List, [], ◌∷◌, length, get_or, take, refl, sym, ap, ◌∙◌, arith}
 use Rattle.std.specs.List.{fold, enumerate_from}
 use Rattle.std.proofs.lemmas.List.{length-take, get_or-take}
 use Rattle.std.proofs.lemmas.Option.{slice_get_within, get_or_from_slice_get}
 use Rattle.ag_model.specs.declared.record.Record.{Record}
-use Rattle.ag_model.specs.Page.{value, numbered, last_touch}
+use Rattle.ag_model.specs.Page.{value}
 use Rattle.ag_model.specs.Rows.{touches}
 use Rattle.ag_version.specs.Steps.{IsAt}
 

@@ -1,30 +1,34 @@
 -- Pages visited one after the other.
-use Rattle.std.proofs.Common.{◌≡◌, ℕ, suc, zero, ◌+◌, ◌<◌, ◌≤◌, min, Bool, true, false, cond, eqb, ◌||◌, ◌&&◌, List, [], ◌∷◌, length, get_or, take, eq-eqb, add-one, refl, sym, ap, subst, ◌∙◌, inl, inr, arith, ◌⊎◌}
+use Rattle.std.proofs.Common.{◌≡◌, ℕ, suc, zero, ◌+◌, ◌<◌, min, Bool, true, false, eqb, ◌||◌, ◌&&◌, List, [], ◌∷◌, length, get_or, take, eq-eqb, add-one, refl, sym, ap, subst, ◌∙◌, inl, inr, arith, ◌⊎◌}
 use Rattle.std.specs.Prelude.{Option, Some, None}
 use Rattle.std.specs.List.{list_any}
-use Rattle.std.proofs.lemmas.Bool.{or_cases, eqb-true, false≢true}
-use Rattle.ag_model.specs.declared.value.PageValue.{PageValue}
+use Rattle.std.proofs.lemmas.Bool.{cases_Bool, or_cases, or_parts, eqb-true, false≢true}
 use Rattle.ag_stripe.specs.declared.fault.StripeFault.{StripeFault}
 use Rattle.ag_stripe.specs.declared.fault.StripeFault.TheVariants.{Bad, Pending, TooOld, Home, Unlawful, NoMemory}
 use Rattle.ag_stripe.specs.Tables.{Table, IsSameTable, is_own, slot_of}
-use Rattle.ag_stripe.specs.Known.{Told, Known, Says, known}
+use Rattle.ag_stripe.specs.Known.{Told, Says, known}
 use Rattle.ag_stripe.specs.Known.Known.{NotSound, NotItsImage}
 use Rattle.ag_model.specs.declared.record.Record.{Record}
 use Rattle.ag_model.specs.Rows.{touches}
 use Rattle.ag_stripe.specs.Reading.{OnlyReads, IsReadFault, HasPages}
 use Rattle.ag_stripe.specs.Redo.{IsKept, is_touched}
 use Rattle.ag_stripe.specs.Visits.{IsAtMost, lesser, Visits, IsVisitFault}
+use Rattle.ag_stripe.proofs.Slots.{at_other}
 use Rattle.ag_stripe.proofs.Readings.{says-then, own-same, reads-none, reads-then}
 
 -- no page
 pub visits-none : (told : Told) (t : Table) (bad : Option ℕ) → Visits told t t bad bad (λ p. false)
-visits-none told t bad = record { reads = reads-none told t; found = λ p own on. absurd (false≢true on); lower = λ p h. h; from = λ p e. inl e }
+visits-none told t bad = record { reads = reads-none told t; found = λ p own on. absurd (false≢true on); others = λ p off. refl; lower = λ p h. h; from = λ p e. inl e }
 
 -- the same pages of the stripe, told otherwise
 pub visits-as : (told : Told) (old new : Table) (before after : Option ℕ) (p q : ℕ → Bool) → ((x : ℕ) → is_own old x ≡ true → p x ≡ q x) → Visits told old new before after p → Visits told old new before after q
 visits-as told old new before after p q same h = record {
   reads = h.reads;
   found = λ x own on. h.found x own (same x own ∙ on);
+  others = λ x off. elim (cases_Bool (is_own old x)) [
+    | inl own ↦ h.others x (same x own ∙ off)
+    | inr away ↦ at_other new x (own-same old new h.reads.same x ∙ away) ∙ sym (at_other old x away)
+  ];
   lower = h.lower;
   from = λ x e. elim (h.from x e) [ inl b ↦ inl b | inr f ↦ inr (f.0, sym (same x f.0) ∙ f.1, f.2) ];
 }
@@ -37,6 +41,7 @@ visits-then told a b c x y z p q h k = record {
     | inl first ↦ earlier n (h.found n own first)
     | inr next ↦ k.found n (own-same a b h.reads.same n ∙ own) next
   ];
+  others = λ n off. (let each = or_parts (p n) (q n) off in k.others n each.1 ∙ h.others n each.0);
   lower = λ n e. k.lower n (h.lower n e);
   from = λ n e. elim (k.from n e) [
     | inl mid ↦ first n (h.from n mid)
@@ -67,14 +72,16 @@ pub visits-foreign : (told : Told) (t : Table) (bad : Option ℕ) (page : ℕ) �
 visits-foreign told t bad page off = record {
   reads = reads-none told t;
   found = λ p own on. absurd (false≢true (sym off ∙ ap (is_own t) (sym (eqb-true p page on)) ∙ own));
+  others = λ p away. refl;
   lower = λ p h. h;
   from = λ p e. inl e;
 }
 
 -- a page that was read in
-pub visits-read : (told : Told) (old new : Table) (bad : Option ℕ) (page : ℕ) → OnlyReads told old new → IsKept new page → Visits told old new bad bad (λ p. eqb p page)
-visits-read told old new bad page reads kept = record {
+pub visits-read : (told : Told) (old new : Table) (bad : Option ℕ) (page : ℕ) → OnlyReads told old new → ((q : ℕ) → eqb q page ≡ false → slot_of new q ≡ slot_of old q) → IsKept new page → Visits told old new bad bad (λ p. eqb p page)
+visits-read told old new bad page reads others kept = record {
   reads = reads;
+  others = others;
   found = λ p own on. inl (subst (IsKept new) (sym (eqb-true p page on)) kept);
   lower = λ p h. h;
   from = λ p e. inl e;
@@ -100,9 +107,10 @@ lesser-is (Some b) page p e = (let f : min b page ≡ p = cc in by_order b page 
     by_order b page p f (inr g) = inr (sym f ∙ g)
 
 -- a bad page
-pub visits-bad : (told : Told) (old new : Table) (bad : Option ℕ) (page : ℕ) → OnlyReads told old new → is_own old page ≡ true → Says (known told old page) NotSound → Visits told old new bad (lesser bad page) (λ p. eqb p page)
-visits-bad told old new bad page reads own says = record {
+pub visits-bad : (told : Told) (old new : Table) (bad : Option ℕ) (page : ℕ) → OnlyReads told old new → ((q : ℕ) → eqb q page ≡ false → slot_of new q ≡ slot_of old q) → is_own old page ≡ true → Says (known told old page) NotSound → Visits told old new bad (lesser bad page) (λ p. eqb p page)
+visits-bad told old new bad page reads others own says = record {
   reads = reads;
+  others = others;
   found = λ p mine on. inr (subst (IsAtMost (lesser bad page)) (sym (eqb-true p page on)) (lesser-low bad page));
   lower = λ p h. lesser-lower bad page p h;
   from = λ p e. elim (lesser-is bad page p e) [

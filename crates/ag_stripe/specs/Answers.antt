@@ -1,7 +1,7 @@
 -- What the calls of a stripe answer.
 use Rattle.std.specs.Prelude.{◌≡◌, ℕ, ◌<◌, ◌≤◌, List, true, false}
-use Rattle.ag_model.specs.declared.message.Block.{Block}
 use Rattle.ag_model.specs.declared.record.Log.{Log}
+use Rattle.ag_model.specs.declared.record.Record.{Record}
 use Rattle.ag_model.specs.declared.value.Row.{Row}
 use Rattle.ag_model.specs.declared.value.PageValue.{PageValue}
 use Rattle.ag_model.specs.Page.{pick}
@@ -12,7 +12,7 @@ use Rattle.ag_stripe.specs.declared.fault.StripeFault.TheVariants.{Bad, Pending,
 use Rattle.ag_stripe.specs.Tables.{Table}
 use Rattle.ag_stripe.specs.Known.{Told, Known, Says, known}
 use Rattle.ag_stripe.specs.Known.Known.{Value, NotSound, NotItsImage, Untold}
-use Rattle.ag_stripe.specs.Ahead.{IsAhead, IsNext}
+use Rattle.ag_stripe.specs.Ahead.{IsAhead, AreNext}
 use Rattle.ag_stripe.specs.Redo.{is_touched}
 
 -- the row of a key at a snapshot, by what is known of its page
@@ -65,22 +65,22 @@ IsImageFault page k (TooOld snapshot horizon) = ⊥
 IsImageFault page k Home = Unit {0}
 IsImageFault page k NoMemory = Unit {0}
 
--- the page is bad, and no page that the block touches is bad below it
-pub record IsLeastBad (told : Told) (t : Table) (block : Block) (page : ℕ) : Type 0 where
-  pub touched : is_touched t block.records page ≡ true
+-- the page is bad, and no page that the records touch is bad below it
+pub record IsLeastBad (told : Told) (t : Table) (records : List Record) (page : ℕ) : Type 0 where
+  pub touched : is_touched t records page ≡ true
   pub bad : Says (known told t page) NotSound
-  pub least : (q : ℕ) → is_touched t block.records q ≡ true → known told t q ≡ NotSound → page ≤ q
+  pub least : (q : ℕ) → is_touched t records q ≡ true → known told t q ≡ NotSound → page ≤ q
 
--- no log whose next block this is gives the page, which the block touches, such a value
-pub record IsForeign (told : Told) (t : Table) (applied : ℕ) (block : Block) (page : ℕ) : Type 0 where
-  pub touched : is_touched t block.records page ≡ true
-  pub never : (log : Log) → IsNext t.pages applied log block → IsAhead t.pages log applied page (known told t page) → ⊥
+-- no log whose next records these are gives the page, which they touch, such a value
+pub record IsForeign (told : Told) (t : Table) (applied : ℕ) (records : List Record) (page : ℕ) : Type 0 where
+  pub touched : is_touched t records page ≡ true
+  pub never : (log : Log) → AreNext t.pages applied log records → IsAhead t.pages log applied page (known told t page) → ⊥
 
--- why a block isn't applied
-abbrev pub IsApplyFault : Told → Table → ℕ → Block → StripeFault → Type 0
-IsApplyFault told t applied block (Bad page) = IsLeastBad told t block page
-IsApplyFault told t applied block (Unlawful page) = IsForeign told t applied block page
-IsApplyFault told t applied block (Pending page) = ⊥
-IsApplyFault told t applied block (TooOld snapshot horizon) = ⊥
-IsApplyFault told t applied block Home = Unit {0}
-IsApplyFault told t applied block NoMemory = Unit {0}
+-- why records aren't applied
+abbrev pub IsApplyFault : Told → Table → ℕ → List Record → StripeFault → Type 0
+IsApplyFault told t applied records (Bad page) = IsLeastBad told t records page
+IsApplyFault told t applied records (Unlawful page) = IsForeign told t applied records page
+IsApplyFault told t applied records (Pending page) = ⊥
+IsApplyFault told t applied records (TooOld snapshot horizon) = ⊥
+IsApplyFault told t applied records Home = Unit {0}
+IsApplyFault told t applied records NoMemory = Unit {0}

@@ -1,4 +1,5 @@
 pub mod Tables
+pub mod View
 pub mod Known
 pub mod Reading
 pub mod Ahead

@@ -1,5 +1,5 @@
 -- What calls that only read leave, and what their faults say.
-use Rattle.std.specs.Prelude.{◌≡◌, ℕ, ◌≤◌, List, [], Bool, true, Option, Some}
+use Rattle.std.specs.Prelude.{◌≡◌, ℕ, ◌≤◌, List, [], Bool, true, Some}
 use Rattle.ag_model.specs.declared.value.PageValue.{PageValue}
 use Rattle.ag_page.specs.Home.{PutBack}
 use Rattle.ag_stripe.specs.declared.fault.StripeFault.{StripeFault}

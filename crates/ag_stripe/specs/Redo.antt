@@ -1,23 +1,20 @@
 -- What redo does to what memory keeps of a page.
-use Rattle.std.specs.Prelude.{◌≡◌, ℕ, ◌+◌, ◌<◌, ◌≤◌, List, length, get_or, Bool, true, ◌&&◌, nat_lt, if◌then◌else◌, Option, Some, None}
+use Rattle.std.specs.Prelude.{◌≡◌, ℕ, ◌<◌, ◌≤◌, List, Bool, true, false, ◌&&◌, nat_lt, if◌then◌else◌, Option, Some, None}
 use Rattle.std.specs.List.{list_any}
 use Rattle.ag_model.specs.declared.record.Log.{Log}
 use Rattle.ag_model.specs.declared.record.Record.{Record}
 use Rattle.ag_model.specs.declared.record.Record.TheVariants.{Put, Del, Commit, Abort, Trim, Term}
 use Rattle.ag_model.specs.declared.value.Change.TheVariants.{Put as PutChange, Del as DelChange}
 use Rattle.ag_model.specs.declared.value.PageValue.{PageValue}
-use Rattle.ag_model.specs.Prefixes.{end_of}
-use Rattle.ag_model.specs.Proper.{IsProper}
 use Rattle.ag_model.specs.Rows.{touches}
 use Rattle.ag_model.specs.Sizes.{change_size, free_bytes}
 use Rattle.ag_version.specs.Edits.{after_change, after_commit, after_abort, after_trim}
-use Rattle.ag_version.specs.Steps.{IsAt}
 use Rattle.ag_stripe.specs.declared.fault.StripeFault.{StripeFault}
 use Rattle.ag_stripe.specs.declared.fault.StripeFault.TheVariants.{Bad, Pending, TooOld, Home, Unlawful, NoMemory}
 use Rattle.ag_stripe.specs.declared.slot.Slot.{Slot}
-use Rattle.ag_stripe.specs.Ahead.{IsAhead}
+use Rattle.ag_stripe.specs.Ahead.{IsAhead, AreNext}
 use Rattle.ag_stripe.specs.Known.{Told, known}
-use Rattle.ag_stripe.specs.Tables.{Table, is_own, slot_of}
+use Rattle.ag_stripe.specs.Tables.{Table, is_own, slot_of, is_dirty}
 
 -- a page after the record at this LSN, which touches it
 abbrev pub after_record : ℕ → Record → PageValue → PageValue
@@ -71,20 +68,23 @@ is_touched t records page = is_own t page && list_any (touches t.pages page) rec
 abbrev pub IsKept : Table → ℕ → Type 0
 IsKept t page = (v : PageValue) × ((slot_of t page).value ≡ Some v)
 
--- the records stand in a proper log next after an LSN
-pub record StandAfter (pages : ℕ) (log : Log) (lsn : ℕ) (records : List Record) : Type 0 where
-  pub proper : IsProper pages log
-  pub each : (i : ℕ) (d : Record) → i < length records → IsAt log.records (lsn + i + 1) (get_or records i d)
-  pub reach : lsn + length records ≤ end_of log
+-- no page but these was edited, and what was read in stays so
+pub record OnlyEdits (old new : Table) (edited : ℕ → Bool) : Type 0 where
+  pub kept : (page : ℕ) → IsKept old page → IsKept new page
+  pub others : (page : ℕ) → edited page ≡ false → slot_of new page ≡ slot_of old page
 
 -- each page of the stripe that records touch was read in
 abbrev pub AreKept : Table → List Record → Type 0
 AreKept t records = (page : ℕ) → is_touched t records page ≡ true → IsKept t page
 
+-- each dirty page was read in
+abbrev pub AreDirtyKept : Table → Type 0
+AreDirtyKept t = (page : ℕ) → is_dirty t page ≡ true → IsKept t page
+
 -- why records aren't redone: a page that they touch isn't one of such a log, or memory was refused
 abbrev pub IsUnlawful : Table → ℕ → List Record → StripeFault → Type 0
 IsUnlawful t applied records (Unlawful page) = (is_touched t records page ≡ true)
-    × ((told : Told) (log : Log) → StandAfter t.pages log applied records → AreKept t records → IsAhead t.pages log applied page (known told t page) → ⊥)
+    × ((told : Told) (log : Log) → AreNext t.pages applied log records → AreKept t records → IsAhead t.pages log applied page (known told t page) → ⊥)
 IsUnlawful t applied records NoMemory = Unit {0}
 IsUnlawful t applied records (Bad page) = ⊥
 IsUnlawful t applied records (Pending page) = ⊥

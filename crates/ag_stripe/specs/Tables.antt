@@ -1,5 +1,5 @@
 -- The pages of one stripe, as memory keeps them.
-use Rattle.std.specs.Prelude.{◌≡◌, ℕ, ◌+◌, ◌-◌, ◌/◌, ◌<◌, ◌≤◌, List, length, get_or, Bool, false, ◌&&◌, ◌||◌, ◌==◌, nat_le, nat_lt, if◌then◌else◌, None}
+use Rattle.std.specs.Prelude.{◌≡◌, ℕ, ◌+◌, ◌-◌, ◌/◌, ◌<◌, ◌≤◌, List, length, get_or, Bool, false, ◌&&◌, ◌==◌, nat_le, nat_lt, if◌then◌else◌, None}
 use Rattle.ag_model.specs.PageSets.{pages_where}
 use Rattle.ag_model.specs.Rows.{stripe_of}
 use Rattle.ag_stripe.specs.declared.slot.Slot.{Slot}

@@ -1,8 +1,8 @@
 -- Pages read in one after the other, and the least bad one.
-use Rattle.std.specs.Prelude.{◌≡◌, ℕ, ◌≤◌, ◌⊎◌, Bool, true, Option, Some, None, min}
+use Rattle.std.specs.Prelude.{◌≡◌, ℕ, ◌≤◌, ◌⊎◌, Bool, true, false, Option, Some, None, min}
 use Rattle.ag_stripe.specs.declared.fault.StripeFault.{StripeFault}
 use Rattle.ag_stripe.specs.declared.fault.StripeFault.TheVariants.{Bad, Pending, TooOld, Home, Unlawful, NoMemory}
-use Rattle.ag_stripe.specs.Tables.{Table, is_own}
+use Rattle.ag_stripe.specs.Tables.{Table, is_own, slot_of}
 use Rattle.ag_stripe.specs.Known.{Told, Says, known}
 use Rattle.ag_stripe.specs.Known.Known.{NotSound, NotItsImage}
 use Rattle.ag_stripe.specs.Reading.{OnlyReads}
@@ -18,10 +18,11 @@ abbrev pub lesser : Option ℕ → ℕ → Option ℕ
 lesser None page = Some page
 lesser (Some found) page = Some (min found page)
 
--- some pages of the stripe were visited: each was read in, or it is bad; `after` has the least bad page so far, `before` the one before
+-- some pages of the stripe were visited: each was read in, or it is bad; the others are left; `after` has the least bad page so far, `before` the one before
 pub record Visits (told : Told) (old new : Table) (before after : Option ℕ) (visited : ℕ → Bool) : Type 0 where
   pub reads : OnlyReads told old new
   pub found : (page : ℕ) → is_own old page ≡ true → visited page ≡ true → IsKept new page ⊎ IsAtMost after page
+  pub others : (page : ℕ) → visited page ≡ false → slot_of new page ≡ slot_of old page
   pub lower : (page : ℕ) → IsAtMost before page → IsAtMost after page
   pub from : (page : ℕ) → after ≡ Some page → (before ≡ Some page) ⊎ ((is_own old page ≡ true) × (visited page ≡ true) × Says (known told old page) NotSound)
 

@@ -1,9 +1,13 @@
 //! Laws of stripes.
-ghost use Rattle.std.specs.Prelude.{◌≡◌, ◌≤◌, ℕ, true, replicate};
+ghost use Rattle.std.specs.Prelude.{◌≡◌, ◌≤◌, ◌<◌, ◌+◌, ℕ, true, false, replicate};
+ghost use Rattle.std.specs.List.{list_any};
 ghost use Rattle.ag_model.specs.declared.record.Log.{Log};
 ghost use Rattle.ag_model.specs.declared.value.PageValue.{PageValue};
+ghost use Rattle.ag_model.specs.Blocks.{after_to};
+ghost use Rattle.ag_model.specs.Page.{value};
 ghost use Rattle.ag_model.specs.Prefixes.{end_of, IsBlockEnd, IsPrefix};
 ghost use Rattle.ag_model.specs.Proper.{IsProper};
+ghost use Rattle.ag_model.specs.Rows.{touches};
 ghost use Rattle.ag_model.specs.Stripes.{StandsFor};
 ghost use Rattle.ag_page.specs.Image.{image};
 ghost use Rattle.ag_page.specs.Spelling.{has_image, page_bytes, IsInRange};
@@ -38,4 +42,11 @@ pub fn stands()
 /// A page that has a value of a proper log, in which the values of all Puts have spellings, has an image.
 pub fn have_images()
     ensures { (pages applied page : ℕ) (k : Known) (log : Log) → IsProper pages log → AreSpelled log.records → IsAhead pages log applied page k → HasNoImage k → ⊥ }
+{}
+
+/// What a stripe starts from.
+pub fn starts()
+    // A page whose image is as of an LSN, and which no record above it and up to the redo start touches, is as a stripe needs it from the redo start on.
+    ensures from_image { (pages : ℕ) (log : Log) (redo page lsn : ℕ) → IsProper pages log → 16 ≤ page → page < 16 + pages → lsn ≤ end_of log → redo ≤ end_of log
+        → list_any (touches pages page) (after_to lsn redo log.records) ≡ false → IsAhead pages log redo page (Value (value pages log.records lsn page)) }
 {}

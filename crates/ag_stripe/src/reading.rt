@@ -1,8 +1,8 @@
 //! Pages that are read in from their home.
-ghost use Rattle.std.specs.Prelude.{◌≡◌, true, false, Ok, Err, IfErr, MatchResult};
+ghost use Rattle.std.specs.Prelude.{◌≡◌, ◌==◌, ℕ, true, false, Ok, Err, IfErr, MatchResult};
 ghost use Rattle.ag_page.specs.Home.{HasRisen};
 ghost use Rattle.ag_stripe.specs.declared.fault.StripeFault.TheVariants.{Home};
-ghost use Rattle.ag_stripe.specs.Tables.{is_own};
+ghost use Rattle.ag_stripe.specs.Tables.{is_own, slot_of};
 ghost use Rattle.ag_stripe.specs.Known.{Says, found_as, is_zero_page, at_place, in_image, in_home, known};
 ghost use Rattle.ag_stripe.specs.Known.Known.{Value, NotSound, NotItsImage};
 ghost use Rattle.ag_stripe.specs.Reading.{OnlyReads, WasRead, IsReadFault};
@@ -83,6 +83,7 @@ pub(crate) fn read_in<H: PageHome>(
     requires own { is_own table.old page ≡ true }
     requires has { H.has_page home.old page ≡ true }
     ensures reads { OnlyReads (H.told home.old) table.old table.new }
+    ensures others { (q : ℕ) → (q == page) ≡ false → slot_of table.new q ≡ slot_of table.old q }
     ensures kept { result ≡ Ok true → IsKept table.new page }
     ensures bad { result ≡ Ok false → Says (known (H.told home.old) table.old page) NotSound }
     ensures fault { IfErr result (IsReadFault page (Says (known (H.told home.old) table.old page) NotItsImage)) }

@@ -4,8 +4,8 @@ ghost use Rattle.ag_model.specs.declared.record.Log.{Log};
 ghost use Rattle.ag_model.specs.Rows.{contains, touches};
 ghost use Rattle.ag_stripe.specs.Tables.{is_own, slot_of, is_dirty, IsSameTable};
 ghost use Rattle.ag_stripe.specs.Known.{Told, known};
-ghost use Rattle.ag_stripe.specs.Ahead.{IsAhead};
-ghost use Rattle.ag_stripe.specs.Redo.{redone_slot, is_touched, IsRefusal, AreKept, StandAfter, IsUnlawful};
+ghost use Rattle.ag_stripe.specs.Ahead.{IsAhead, AreNext};
+ghost use Rattle.ag_stripe.specs.Redo.{redone_slot, is_touched, OnlyEdits, IsRefusal, AreKept, IsUnlawful};
 
 use crate::fault::StripeFault;
 use crate::table::PageTable;
@@ -22,6 +22,7 @@ fn redo_listed(
     requires { (q : ℕ) → touches table.old.pages q entry.now ≡ contains q pages.now }
     ensures same { IsSameTable table.old table.new }
     ensures redone { OnOk result ((q : ℕ) → slot_of table.new q ≡ (if is_own table.old q && contains q pages.now then redone_slot lsn entry.now (slot_of table.old q) else slot_of table.old q)) }
+    ensures edits { OnlyEdits table.old table.new (λ q. is_own table.old q && touches table.old.pages q entry.now) }
     ensures refused { IfErr result (IsRefusal lsn entry.now table.old) }
 {
     for page in pages {
@@ -34,6 +35,7 @@ fn redo_listed(
 fn redo(table: &mut PageTable, lsn: u64, entry: &Record) -> Result<(), StripeFault>
     ensures same { IsSameTable table.old table.new }
     ensures redone { OnOk result ((q : ℕ) → slot_of table.new q ≡ (if is_own table.old q && touches table.old.pages q entry.now then redone_slot lsn entry.now (slot_of table.old q) else slot_of table.old q)) }
+    ensures edits { OnlyEdits table.old table.new (λ q. is_own table.old q && touches table.old.pages q entry.now) }
     ensures refused { IfErr result (IsRefusal lsn entry.now table.old) }
 {
     let pages = table.pages();
@@ -57,8 +59,9 @@ pub(crate) fn redo_all(
     ensures end { IfOk result (λ end. end ≡ applied + length records.now) }
     ensures same { IsSameTable table.old table.new }
     ensures dirty { OnOk result ((q : ℕ) → is_dirty table.new q ≡ (is_dirty table.old q || is_touched table.old records.now q)) }
-    ensures values { OnOk result ((told : Told) (log : Log) (page : ℕ) → StandAfter table.old.pages log applied records.now → AreKept table.old records.now → is_own table.old page ≡ true
+    ensures values { OnOk result ((told : Told) (log : Log) (page : ℕ) → AreNext table.old.pages applied log records.now → AreKept table.old records.now → is_own table.old page ≡ true
         → IsAhead table.old.pages log applied page (known told table.old page) → IsAhead table.old.pages log (applied + length records.now) page (known told table.new page)) }
+    ensures edits { OnlyEdits table.old table.new (is_touched table.old records.now) }
     ensures refused { IfErr result (IsUnlawful table.old applied records.now) }
 {
     let mut lsn = applied;

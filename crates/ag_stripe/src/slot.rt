@@ -1,5 +1,5 @@
 //! What memory keeps of one page.
-ghost use Rattle.std.specs.Prelude.{◌≡◌, ◌<◌, OnOk, IfErr};
+ghost use Rattle.std.specs.Prelude.{◌≡◌, ◌<◌, OnOk, IfErr, is_some};
 ghost use Rattle.ag_version.specs.declared.fault.PutFault.TheVariants.{NoMemory};
 ghost use Rattle.ag_stripe.specs.Redo.{after_record, redone, redone_slot, HasRoom, CanTake};
 
@@ -46,6 +46,7 @@ impl Slot {
     /// Redoes the record at this LSN, which touches the page. The page is dirty from then on.
     pub(crate) fn redo(&mut self, lsn: u64, entry: &Record) -> Result<(), PutFault>
         ensures ok { OnOk result (self.new ≡ redone_slot lsn entry.now self.old) }
+        ensures kept { is_some self.new.value ≡ is_some self.old.value }
         ensures room { CanTake lsn entry.now self.old → IfErr result (λ e. e ≡ NoMemory) }
     {
         if let Some(v) = &mut self.value {

@@ -7,6 +7,7 @@ use ag_model::page_set::PageSet;
 use ag_model::value::NoMemory;
 use ag_page::PageHome;
 use std::alloc::Global;
+use std::marker::Model;
 
 /// The place of a home that isn't there.
 #[derive(Clone, Copy, Debug)]
@@ -20,7 +21,17 @@ pub struct Stripe<H> {
     pub(crate) applied: u64,
     pub(crate) home: H,
     pub(crate) alloc: Global,
-    ghost ordered: { opening ≤ applied },
+}
+
+impl<H> Model for Stripe<H> {
+    ghost use Rattle.std.specs.Prelude.{◌≤◌};
+    ghost use Rattle.ag_stripe.specs.View.{StripeView};
+
+    ghost Value = { StripeView H };
+
+    ghost view = { λ s. record { table = s.table; opening = s.opening; applied = s.applied; home = s.home } };
+
+    ghost invariant = { λ s. s.opening ≤ s.applied };
 }
 
 impl Stripe<Away> {
@@ -104,6 +115,13 @@ impl<H: PageHome> Stripe<H> {
 }
 
 impl<H> Stripe<H> {
+    /// The applied LSN.
+    pub fn applied(&self) -> u64
+        ensures { result ≡ self.now.applied }
+    {
+        self.applied
+    }
+
     /// The dirty pages: those that redo touched since their images were written.
     pub fn dirty(&self) -> PageSet
         ensures { result ≡ dirty_pages self.now.table }

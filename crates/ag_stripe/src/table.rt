@@ -3,7 +3,7 @@ ghost use Rattle.std.specs.Prelude.{◌≡◌, ◌<◌, ◌≤◌, ℕ, ◌==◌
 ghost use Rattle.ag_model.specs.PageSets.{pages_where};
 ghost use Rattle.ag_model.specs.Rows.{touches};
 ghost use Rattle.ag_stripe.specs.Tables.{is_own, empty_slot, slot_of, is_dirty_at, dirty_pages, IsSameTable};
-ghost use Rattle.ag_stripe.specs.Redo.{IsKept, redone_slot, IsRefusal};
+ghost use Rattle.ag_stripe.specs.Redo.{IsKept, OnlyEdits, redone_slot, IsRefusal};
 
 use crate::fault::StripeFault;
 use crate::slot::Slot;
@@ -124,6 +124,7 @@ impl PageTable {
         requires { touches self.old.pages page entry.now ≡ true }
         ensures same { IsSameTable self.old self.new }
         ensures redone { OnOk result ((q : ℕ) → slot_of self.new q ≡ (if is_own self.old q && (q == page) then redone_slot lsn entry.now (slot_of self.old q) else slot_of self.old q)) }
+        ensures edits { OnlyEdits self.old self.new (λ q. is_own self.old q && touches self.old.pages q entry.now) }
         ensures refused { IfErr result (IsRefusal lsn entry.now self.old) }
     {
         if !self.owns(page) {

@@ -102,6 +102,16 @@ fn records(alloc: Global, place: u8) -> Result<Vec<Record>, Fail> {
     Ok(out)
 }
 
+/// The records of some blocks, one after the other.
+fn between(alloc: Global, first: u8, last: u8) -> Result<Vec<Record>, Fail> {
+    let mut out = Vec::new(alloc);
+    for place in first..last {
+        let mut more = records(alloc, place)?;
+        out.append(&mut more)?;
+    }
+    Ok(out)
+}
+
 /// All records, from LSN 1.
 fn whole(alloc: Global) -> Result<Vec<Record>, Fail> {
     let mut out = Vec::new(alloc);
@@ -261,6 +271,15 @@ fn apply(stripe: &mut OnDisk, block: &Block) -> Result<u64, StripeFault> {
     }
 }
 
+fn redo(stripe: &mut OnDisk, records: &[Record]) -> Result<(), StripeFault> {
+    let _pages = stripe.table.pages();
+    if stripe.applied < 1000 && records.len() < 1000 {
+        stripe.redo(records)
+    } else {
+        Err(StripeFault::NoMemory)
+    }
+}
+
 fn value_of(stripe: &mut OnDisk, page: u16) -> Result<PageValue, StripeFault> {
     let _pages = stripe.table.pages();
     if stripe.table.owns(page) {
@@ -349,6 +368,7 @@ fn a_page_of_one_version(rt: HostRuntime) -> Result<(), Fail> {
     laws::images();
     laws::stands();
     laws::have_images();
+    laws::starts();
     Ok(())
 }
 
@@ -384,6 +404,38 @@ fn redo_gives_what_the_fold_gives(rt: HostRuntime) -> Result<(), Fail> {
     );
     assert_eq!(rt; row_at(&mut stripe, 5, 8), Ok(expected_row(&log, 8, 5)));
     assert_eq!(rt; row_at(&mut stripe, 21, 7), Ok(expected_row(&log, 7, 21)));
+    Ok(())
+}
+
+#[test]
+fn records_of_some_blocks_at_once(rt: HostRuntime) -> Result<(), Fail> {
+    let alloc = rt.alloc();
+    let log = whole(alloc)?;
+    // How many blocks are applied one by one, and up to which block the records are redone at once.
+    for (first, last) in [(0, 0), (0, 1), (0, 4), (1, 1), (1, 3), (2, 4), (3, 4)] {
+        let mut disk = fresh(alloc);
+        let mut other = fresh(alloc);
+        let mut at_once = new(alloc, PAGES)?.lend(PageStore::new(&mut disk));
+        let mut by_block = new(alloc, PAGES)?.lend(PageStore::new(&mut other));
+        for (i, block) in blocks(alloc)?.iter().enumerate() {
+            assert!(rt; i >= usize::from(first) || apply(&mut at_once, block).is_ok());
+            assert!(rt; i >= usize::from(last) || apply(&mut by_block, block).is_ok());
+        }
+        let records = between(alloc, first, last)?;
+        assert_eq!(rt; redo(&mut at_once, records.as_slice()), Ok(()));
+        let end = by_block.applied();
+        let n = end as usize;
+        assert_eq!(rt; at_once.applied(), end);
+        for page in [21, 37] {
+            let dirty = by_block.dirty().has(page);
+            assert_eq!(rt; at_once.dirty().has(page), dirty, "page {page} at {end}");
+            assert!(rt; is_as_expected(alloc, &mut by_block, &log, n, page)?);
+            assert!(rt;
+                is_as_expected(alloc, &mut at_once, &log, n, page)?,
+                "page {page} at {end}"
+            );
+        }
+    }
     Ok(())
 }
 
@@ -474,6 +526,10 @@ fn the_least_bad_page_is_told_first(rt: HostRuntime) -> Result<(), Fail> {
         let mut stripe = new(alloc, PAGES)?.lend(PageStore::new(&mut disk));
         assert_eq!(rt;
             apply(&mut stripe, block),
+            Err(StripeFault::Bad { page: told })
+        );
+        assert_eq!(rt;
+            redo(&mut stripe, block.records.as_slice()),
             Err(StripeFault::Bad { page: told })
         );
         assert!(rt; stripe.dirty().is_empty());

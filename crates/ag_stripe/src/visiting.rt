@@ -3,7 +3,7 @@ ghost use Rattle.std.specs.Prelude.{◌≡◌, ◌==◌, ◌≤◌, None, Err, I
 ghost use Rattle.ag_model.specs.Rows.{contains, page_of, touches};
 ghost use Rattle.ag_page.specs.Home.{HasRisen};
 ghost use Rattle.ag_stripe.specs.declared.fault.StripeFault.TheVariants.{Home};
-ghost use Rattle.ag_stripe.specs.Reading.{WasRead, HasPages};
+ghost use Rattle.ag_stripe.specs.Reading.{OnlyReads, WasRead, HasPages};
 ghost use Rattle.ag_stripe.specs.Redo.{is_touched};
 ghost use Rattle.ag_stripe.specs.Visits.{lesser, Visits, IsVisitFault};
 
@@ -42,6 +42,7 @@ fn visit<H: PageHome>(
     bad: Option<u16>,
 ) -> Result<Option<u16>, StripeFault>
     requires { HasPages H.has_page table.old home.old }
+    ensures reads { OnlyReads (H.told home.old) table.old table.new }
     ensures visits { IfOk result (λ after. Visits (H.told home.old) table.old table.new bad after (λ p. p == page)) }
     ensures fault { IfErr result (IsVisitFault (H.told home.old) table.old (λ p. p == page)) }
     ensures home { WasRead H.has_page H.told H.faults H.refusals H.leaves home.old home.new }
@@ -66,6 +67,7 @@ fn visit_listed<H: PageHome>(
     bad: Option<u16>,
 ) -> Result<Option<u16>, StripeFault>
     requires { HasPages H.has_page table.old home.old }
+    ensures reads { OnlyReads (H.told home.old) table.old table.new }
     ensures visits { IfOk result (λ after. Visits (H.told home.old) table.old table.new bad after (λ p. contains p pages.now)) }
     ensures fault { IfErr result (IsVisitFault (H.told home.old) table.old (λ p. contains p pages.now)) }
     ensures home { WasRead H.has_page H.told H.faults H.refusals H.leaves home.old home.new }
@@ -87,6 +89,7 @@ fn visit_touched<H: PageHome>(
     bad: Option<u16>,
 ) -> Result<Option<u16>, StripeFault>
     requires { HasPages H.has_page table.old home.old }
+    ensures reads { OnlyReads (H.told home.old) table.old table.new }
     ensures visits { IfOk result (λ after. Visits (H.told home.old) table.old table.new bad after (λ p. touches table.old.pages p entry.now)) }
     ensures fault { IfErr result (IsVisitFault (H.told home.old) table.old (λ p. touches table.old.pages p entry.now)) }
     ensures home { WasRead H.has_page H.told H.faults H.refusals H.leaves home.old home.new }
@@ -111,6 +114,7 @@ pub(crate) fn visit_all<H: PageHome>(
     records: &[Record],
 ) -> Result<Option<u16>, StripeFault>
     requires { HasPages H.has_page table.old home.old }
+    ensures reads { OnlyReads (H.told home.old) table.old table.new }
     ensures visits { IfOk result (λ after. Visits (H.told home.old) table.old table.new None after (is_touched table.old records.now)) }
     ensures fault { IfErr result (IsVisitFault (H.told home.old) table.old (is_touched table.old records.now)) }
     ensures home { WasRead H.has_page H.told H.faults H.refusals H.leaves home.old home.new }

@@ -1,4 +1,4 @@
-use Rattle.std.proofs.Common.{◌≡◌, ap, sym, ◌∙◌, true, false}
+use Rattle.std.proofs.Common.{◌≡◌, ap, true}
 use Rattle.ag_page.specs.Spelling.{has_image}
 use Rattle.ag_model.specs.declared.value.PageValue.{PageValue}
 use Rattle.ag_stripe.specs.Known.{Known}

@@ -1,12 +1,12 @@
-use Rattle.std.proofs.Common.{◌≡◌, ℕ, Bool, true, cond, List, [], replicate, length, eqb, eq-eqb, false, lit<, refl, sym, ap, subst, ◌∙◌}
+use Rattle.std.proofs.Common.{◌≡◌, ℕ, Bool, true, cond, List, [], replicate, eqb, eq-eqb, false, lit<, refl, sym, ap, ◌∙◌}
 use Rattle.std.proofs.lemmas.Bool.{eqb-true}
 use Rattle.ag_model.specs.declared.value.PageValue.{PageValue}
-use Rattle.ag_page.specs.Image.{image, image_bytes}
+use Rattle.ag_page.specs.Image.{image}
 use Rattle.ag_page.specs.Reading.{page_at}
 use Rattle.ag_page.specs.Spelling.{has_image, page_bytes, IsInRange}
 use Rattle.ag_page.proofs.Pages.{page_again, length-page_bytes, page_bytes-zeros}
 use Rattle.ag_page.proofs.Sectors.{image_bytes-image}
-use Rattle.ag_stripe.specs.Known.{Known, at_place, empty_page, in_image, is_zero_page}
+use Rattle.ag_stripe.specs.Known.{at_place, empty_page, in_image, is_zero_page}
 use Rattle.ag_stripe.specs.Known.Known.{Value, NotItsImage}
 use Rattle.ag_stripe.proofs.Images.{image-read}
 use Rattle.ag_stripe.proofs.laws.images.Goals as goal

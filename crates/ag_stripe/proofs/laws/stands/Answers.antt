@@ -1,17 +1,12 @@
-use Rattle.std.proofs.Common.{◌≡◌, ◌≢◌, ℕ, ◌≤◌, ◌<◌, ◌+◌, ◌&&◌, Bool, true, false, sym, ap, ◌∙◌, arith, eq-eqb, refl}
+use Rattle.std.proofs.Common.{◌≡◌, ℕ, ◌+◌, ◌&&◌, Bool, true, false, ap, ◌∙◌, arith, eq-eqb, refl}
 use Rattle.std.proofs.lemmas.Bool.{le-leb, lt-ltb}
-use Rattle.ag_model.specs.declared.record.Log.{Log}
-use Rattle.ag_model.specs.declared.value.PageValue.{PageValue}
 use Rattle.ag_model.specs.Page.{value}
-use Rattle.ag_model.specs.Prefixes.{end_of, IsPrefix}
-use Rattle.ag_model.specs.Stripes.{Standing, IsPageOf}
 use Rattle.ag_model.specs.Rows.{stripe_of}
 use Rattle.ag_model.proofs.Prefixes.{prefix_length, value_prefix}
-use Rattle.ag_stripe.specs.Ahead.{IsAhead}
 use Rattle.ag_stripe.specs.Known.{Known, known}
 use Rattle.ag_stripe.specs.Known.Known.{Value, NotSound}
 use Rattle.ag_stripe.specs.Standing.{value_or_none, is_bad}
-use Rattle.ag_stripe.specs.Tables.{Table, is_own}
+use Rattle.ag_stripe.specs.Tables.{is_own}
 use Rattle.ag_stripe.proofs.laws.stands.Goals as goal
 
 all-three : (a b c : Bool) → a ≡ true → b ≡ true → c ≡ true → (a && (b && c)) ≡ true

@@ -1,9 +1,9 @@
-use Rattle.std.proofs.Common.{◌≡◌, sym, subst, ap, ◌∙◌, refl}
+use Rattle.std.proofs.Common.{◌≡◌, subst, ap, ◌∙◌, refl}
 use Rattle.std.specs.Prelude.{Ok}
 use Rattle.std.specs.Option.{IfSome}
 use Rattle.std.proofs.lemmas.Result.{err_from_is_err_and}
 use Rattle.ag_page.specs.declared.home.Got.{Got}
-use Rattle.ag_page.specs.declared.home.Got.TheVariants.{Sound, Torn, Lost}
+use Rattle.ag_page.specs.declared.home.Got.TheVariants.{Torn, Lost}
 use Rattle.ag_page.specs.Home.{found}
 use Rattle.ag_stripe.specs.Known.{Says, in_image, in_home}
 use Rattle.ag_stripe.specs.Known.Known.{Value, NotItsImage}

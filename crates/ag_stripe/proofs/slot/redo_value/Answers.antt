@@ -1,4 +1,4 @@
-use Rattle.std.proofs.Common.{◌≡◌, ◌∙◌, sym}
+use Rattle.std.proofs.Common.{◌∙◌, sym}
 use Rattle.std.proofs.lemmas.Result.{on_ok_weaker}
 use Rattle.ag_stripe.proofs.Redone.{redone-below, redone-above}
 use Rattle.ag_stripe.proofs.slot.redo_value.Goals as goal

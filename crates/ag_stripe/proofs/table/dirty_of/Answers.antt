@@ -1,6 +1,4 @@
-use Rattle.std.proofs.Common.{◌≡◌, sym, ◌∙◌, length, ◌<◌, ◌+◌, ◌*◌, arith}
-use Rattle.ag_model.specs.PageSets.{pages_where}
-use Rattle.ag_stripe.specs.Tables.{is_dirty_at}
+use Rattle.std.proofs.Common.{sym, ◌∙◌, length, ◌<◌, ◌+◌, ◌*◌, arith}
 use Rattle.ag_stripe.proofs.Slots.{dirty-none, dirty-next, clean-next}
 use Rattle.ag_stripe.proofs.table.dirty_of.Goals as goal
 use Rattle.ag_stripe.proofs.table.dirty_of.Goals.{then-slot, else-slot}

@@ -1,11 +1,11 @@
-use Rattle.std.proofs.Common.{◌≡◌, ◌||◌, ◌<◌, ◌+◌, ℕ, length, get_or, take, sym, subst, ap, ◌∙◌, arith}
+use Rattle.std.proofs.Common.{◌||◌, ◌<◌, ◌+◌, length, take, subst, arith}
 use Rattle.std.specs.Prelude.{None}
-use Rattle.std.proofs.lemmas.Result.{err_from_is_err_and}
 use Rattle.ag_model.specs.Rows.{touches}
 use Rattle.ag_stripe.specs.Known.{Told}
 use Rattle.ag_stripe.specs.Redo.{is_touched}
+use Rattle.ag_stripe.specs.Reading.{OnlyReads}
 use Rattle.ag_stripe.specs.Visits.{Visits}
-use Rattle.ag_stripe.proofs.Readings.{was_read-then}
+use Rattle.ag_stripe.proofs.Readings.{reads-then, was_read-then}
 use Rattle.ag_stripe.proofs.Visits.{touched-more, visits-as, visits-then}
 use Rattle.ag_stripe.proofs.visiting.visit_all.Goals as goal
 
@@ -13,6 +13,13 @@ pub returns-in_err-least-clause-home : goal.returns-in_err-least-clause-home
 returns-in_err-least-clause-home g c =
     let h = g.H.PageHome in
     was_read-then h.has_page h.told h.faults h.refusals h.leaves g.met.H.PageHome.leaves_both c.args.home.now c.loop-entry.home c.visit_touched.new.home c.loop-entry.invariant.home c.visit_touched.ensures.home
+
+pub returns-in_err-least-clause-reads : goal.returns-in_err-least-clause-reads
+returns-in_err-least-clause-reads g c =
+    let inv = c.loop-entry.invariant in
+    let old = c.loop-entry.table in
+    let new = c.visit_touched.new.table in
+    reads-then (g.H.PageHome.told c.args.home.now) c.args.table.now old new inv.visits.reads (subst (λ (t : Told). OnlyReads t old new) inv.home.tells c.visit_touched.ensures.reads)
 
 pub loop-entry-preserved : goal.loop-entry-preserved
 loop-entry-preserved g c =

@@ -1,9 +1,9 @@
-use Rattle.std.proofs.Common.{◌≡◌, ◌||◌, ◌<◌, ◌+◌, ℕ, length, get_or, take, sym, subst, ap, ◌∙◌, arith, eqb}
-use Rattle.std.proofs.lemmas.Result.{err_from_is_err_and}
+use Rattle.std.proofs.Common.{◌||◌, ◌<◌, ◌+◌, length, get_or, take, sym, subst, arith, eqb}
 use Rattle.ag_model.specs.Rows.{contains}
 use Rattle.ag_stripe.specs.Known.{Told}
+use Rattle.ag_stripe.specs.Reading.{OnlyReads}
 use Rattle.ag_stripe.specs.Visits.{Visits}
-use Rattle.ag_stripe.proofs.Readings.{was_read-then}
+use Rattle.ag_stripe.proofs.Readings.{reads-then, was_read-then}
 use Rattle.ag_stripe.proofs.Visits.{any-more, visits-as, visits-then}
 use Rattle.ag_stripe.proofs.visiting.visit_listed.Goals as goal
 
@@ -11,6 +11,13 @@ pub returns-in_err-least-clause-home : goal.returns-in_err-least-clause-home
 returns-in_err-least-clause-home g c =
     let h = g.H.PageHome in
     was_read-then h.has_page h.told h.faults h.refusals h.leaves g.met.H.PageHome.leaves_both c.args.home.now c.loop-page.home c.visit.new.home c.loop-page.invariant.home c.visit.ensures.home
+
+pub returns-in_err-least-clause-reads : goal.returns-in_err-least-clause-reads
+returns-in_err-least-clause-reads g c =
+    let inv = c.loop-page.invariant in
+    let old = c.loop-page.table in
+    let new = c.visit.new.table in
+    reads-then (g.H.PageHome.told c.args.home.now) c.args.table.now old new inv.visits.reads (subst (λ (t : Told). OnlyReads t old new) inv.home.tells c.visit.ensures.reads)
 
 pub loop-page-preserved : goal.loop-page-preserved
 loop-page-preserved g c =

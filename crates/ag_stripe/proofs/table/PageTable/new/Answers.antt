@@ -1,6 +1,6 @@
-use Rattle.std.proofs.Common.{◌≡◌, ap, ◌∙◌, List, ℕ}
+use Rattle.std.proofs.Common.{ap, ◌∙◌, List}
 use Rattle.ag_stripe.specs.declared.slot.Slot.{Slot}
-use Rattle.ag_stripe.specs.Tables.{Table, slot_of}
+use Rattle.ag_stripe.specs.Tables.{slot_of}
 use Rattle.ag_stripe.proofs.Slots.{slot-none}
 use Rattle.ag_stripe.proofs.table.PageTable.new.Goals as goal
 

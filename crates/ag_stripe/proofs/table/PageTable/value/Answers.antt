@@ -1,4 +1,4 @@
-use Rattle.std.proofs.Common.{◌≡◌, sym, ap, ◌∙◌}
+use Rattle.std.proofs.Common.{sym, ap, ◌∙◌}
 use Rattle.ag_stripe.specs.declared.slot.Slot.{Slot}
 use Rattle.ag_stripe.proofs.Slots.{slot-at}
 use Rattle.ag_stripe.proofs.table.PageTable.value.Goals as goal
