@@ -3,6 +3,7 @@ mod Deciding
 mod Finding
 mod Calls
 mod Orders
+mod Redoing
 mod Coming
 mod Homes
 mod Beginning
