@@ -1,6 +1,9 @@
+pub mod Blanks
 pub mod CommandWords
 pub mod Cuts
+pub mod Disks
 pub mod Lifts
+pub mod Nodes
 pub mod Openings
 pub mod Refused
 pub mod Runs
