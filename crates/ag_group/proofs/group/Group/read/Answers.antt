@@ -8,7 +8,7 @@ use Rattle.ag_rules.specs.Checks.{token_or_none}
 use Rattle.ag_rules.specs.Next.{at_session, token}
 use Rattle.ag_rules.specs.ReadEvent.{read_part}
 use Rattle.ag_group.specs.Seen.{GroupView, group_of, replicas_of}
-use Rattle.ag_group.proofs.Nodes.{count_is, node_read}
+use Rattle.ag_group.proofs.Nodes.{count_is, node_read, pages_at, group_with}
 use Rattle.ag_group.proofs.Lifts.{session_lifted, told, read_free, read_quiet, wrote}
 use Rattle.ag_group.proofs.group.Group.read.Goals as goal
 
@@ -54,3 +54,9 @@ returns-clause-writes g c =
     let none : (read_part (here c.args.self.now.group c.args.n) (replica c.args.self.now.group c.args.n) seen c.args.key).writes ≡ [] = wrote (λ h r. read_part h r seen c.args.key) (read_free seen c.args.key) group c.args.self.now.group c.args.n c.from-2.result c.site-site.result c.index-node.result.now.replica within
     c.site-site.ensures.number (c.site-site.ensures.pages ∙ ap (λ (g : Group). g.config.pages) (sym same)) (c.site-site.ensures.store ∙ ap (λ (g : Group). g.register) (sym same)) c.from-2.ensures (node_read c.self.inside.nodes.items c.from-2.result c.index-node.result.now c.index-node.ensures) c.in_ok-answer.ensures.writes same in
     subst (λ (t : Token). (read_part (here c.args.self.now.group c.args.n) (replica c.args.self.now.group c.args.n) t c.args.key).writes ≡ []) (seen_is ∙ ap (λ (g : Group). token g c.args.s) same) none
+
+pub read-requires : goal.read-requires
+read-requires g c =
+    let inside = c.self.inside in
+    let within : c.from.result < length inside.nodes.items = omega (arith, c.self.invariant.each, c.requires.node, c.from.ensures, ap (λ (v : GroupView). length v.group.config.modes) c.self.view_is) in
+    record { pages = c.site-site.ensures.pages ∙ ap (λ (v : GroupView). v.group.config.pages) (sym c.self.view_is) ∙ sym (pages_at inside.config inside.nodes.items inside.links.items inside.register (length inside.tokens.items) c.self.invariant c.from.result c.index-node.result.now within c.index-node.ensures) }

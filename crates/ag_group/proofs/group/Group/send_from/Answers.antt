@@ -2,7 +2,7 @@ use Rattle.std.proofs.Common.{◌≡◌, ◌<◌, length, sym, ap, ◌∙◌, ar
 use Rattle.ag_rules.specs.Group.{Group}
 use Rattle.ag_rules.specs.SendEvent.{send_part}
 use Rattle.ag_group.specs.Seen.{GroupView, group_of, replicas_of}
-use Rattle.ag_group.proofs.Nodes.{count_is, node_read, with_node}
+use Rattle.ag_group.proofs.Nodes.{count_is, node_read, with_node, pages_at, group_with}
 use Rattle.ag_group.proofs.Lifts.{stepped, told, sent, send_free}
 use Rattle.ag_node.specs.Out.{posting_of}
 use Rattle.ag_node.specs.Sites.{here_at}
@@ -42,3 +42,9 @@ returns-clause-room g c =
     let h = here_at c.site-site.result in
     let r = c.index_mut-node.result.now.replica in
     room_by_out c.args.m c.in_ok-sent.sent.1 c.args.full (send_part h r c.args.m c.args.full).out c.in_ok-sent.ensures.out (λ e. ap (λ b. (send_part h r c.args.m b).out) e ∙ send_full h r c.args.m)
+
+pub invariant_of-self : goal.invariant_of-self
+invariant_of-self g c =
+    let inside = c.self.inside in
+    let within : c.from.result < length inside.nodes.items = omega (arith, c.self.invariant.each, c.requires, c.from.ensures, ap (λ (v : GroupView). length v.group.config.modes) c.self.view_is) in
+    group_with inside.config inside.nodes.items inside.links.items inside.register (length inside.tokens.items) c.self.invariant c.from.result c.index_mut-node.result.now within c.index_mut-node.ensures.value c.send.new.self c.send.ensures.pages

@@ -5,7 +5,7 @@ use Rattle.ag_rules.specs.Group.{Group, replica}
 use Rattle.ag_rules.specs.Plan.{here}
 use Rattle.ag_rules.specs.StartEvent.{start_part}
 use Rattle.ag_group.specs.Seen.{GroupView, group_of, replicas_of}
-use Rattle.ag_group.proofs.Nodes.{count_is, node_read, with_node, counted, node_lawful}
+use Rattle.ag_group.proofs.Nodes.{count_is, node_read, with_node, counted, node_lawful, pages_at, group_with}
 use Rattle.ag_group.proofs.Lifts.{lifted_among, told_among, start_quiet}
 use Rattle.ag_group.proofs.Cuts.{cut_doing, cut_quiet, cut_answer, cut_after}
 use Rattle.ag_group.proofs.group.Group.start.Goals as goal
@@ -42,3 +42,21 @@ returns-in-Err-clause-fault g c =
 
 pub returns-in-Err-clause-lawful : goal.returns-in-Err-clause-lawful
 returns-in-Err-clause-lawful g c k names = node_lawful c.args.n c.in-Err.e k (sym c.of_node.ensures ∙ names)
+
+pub start-requires-clause-pages : goal.start-requires-clause-pages
+start-requires-clause-pages g c =
+    let inside = c.self.inside in
+    let within : c.from.result < length inside.nodes.items = omega (arith, c.self.invariant.each, c.requires.node, c.from.ensures, ap (λ (v : GroupView). length v.group.config.modes) c.self.view_is) in
+    c.site-site.ensures.pages ∙ ap (λ (v : GroupView). v.group.config.pages) (sym c.self.view_is) ∙ sym (pages_at inside.config inside.nodes.items inside.links.items inside.register (length inside.tokens.items) c.self.invariant c.from.result c.index_mut-node.result.now within c.index_mut-node.ensures.value)
+
+pub invariant_of-self : goal.invariant_of-self
+invariant_of-self g c =
+    let inside = c.self.inside in
+    let within : c.from.result < length inside.nodes.items = omega (arith, c.self.invariant.each, c.requires.node, c.from.ensures, ap (λ (v : GroupView). length v.group.config.modes) c.self.view_is) in
+    group_with inside.config inside.nodes.items inside.links.items inside.register (length inside.tokens.items) c.self.invariant c.from.result c.index_mut-node.result.now within c.index_mut-node.ensures.value c.start.new.self c.start.ensures.pages
+
+pub invariant_of-self-2 : goal.invariant_of-self-2
+invariant_of-self-2 g c =
+    let inside = c.self.inside in
+    let within : c.from.result < length inside.nodes.items = omega (arith, c.self.invariant.each, c.requires.node, c.from.ensures, ap (λ (v : GroupView). length v.group.config.modes) c.self.view_is) in
+    group_with inside.config inside.nodes.items inside.links.items inside.register (length inside.tokens.items) c.self.invariant c.from.result c.index_mut-node.result.now within c.index_mut-node.ensures.value c.start.new.self c.start.ensures.pages
