@@ -1,6 +1,9 @@
+pub mod Blanks
 pub mod CommandWords
 pub mod Cuts
 pub mod Lifts
+pub mod Nodes
+pub mod LinkRows
 pub mod Openings
 pub mod Refused
 pub mod Runs

@@ -78,7 +78,7 @@ header_only c = append-nil (line (header_text c))
 pub header_cut : (c : Config) (es : List Event) (a b : Option (List ℕ)) (text : List ℕ) → text ≡ line (header_text c) → AppendsFront a b text → HasRunInPart c es a b
 header_cut c es a b text is h = record { count = 0; answers = []; lawful = refl; written = subst (λ (t : List ℕ). AppendsFront a b t) (is ∙ sym (header_only c)) h }
 
-config_at_opening : (c : Config) → (opening c).config ≡ c
+pub config_at_opening : (c : Config) → (opening c).config ≡ c
 config_at_opening c = unfold opening in refl
 
 pub SoFar-start : (c : Config) (es : List Event) (g : Group) (a b : Option (List ℕ)) (text : List ℕ) → g ≡ opening c → text ≡ line (header_text c) → Appends a b text → SoFar c es 0 g a b

@@ -1,5 +1,7 @@
 pub mod Arrivals
+pub mod Blank
 pub mod CommandWords
+pub mod Faults
 pub mod Groups
 pub mod InFlight
 pub mod Played
@@ -7,4 +9,5 @@ pub mod Quiet
 pub mod Ran
 pub mod Refusals
 pub mod Scenario
+pub mod Seen
 pub mod Statuses

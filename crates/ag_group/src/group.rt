@@ -1,5 +1,7 @@
 //! The group.
-ghost use Rattle.std.specs.Prelude.{◌≡◌, ◌<◌, IfOk, OnOk, length, []};
+ghost use Rattle.std.specs.Prelude.{◌≡◌, ◌≢◌, ◌<◌, ℕ, Err, IfOk, IfErr, OnOk, length, map, get_or, []};
+ghost use Rattle.std.specs.List.{AllByRecursion};
+ghost use Rattle.ag_outside.specs.Counts.{HasRisen};
 ghost use Rattle.ag_rules.specs.Group.{opening};
 ghost use Rattle.ag_rules.specs.Next.{named, plan_of};
 ghost use Rattle.ag_rules.specs.Script.{IsConfig, IsEvent, IsWho};
@@ -7,78 +9,93 @@ ghost use Rattle.ag_built.specs.Built.{IsBuilt, HasValues};
 ghost use Rattle.ag_rules.specs.Allowed.{IsAllowed, next};
 ghost use Rattle.ag_group.specs.Refusals.{IsLeft};
 ghost use Rattle.ag_group.specs.Quiet.{WritesNothing};
+ghost use Rattle.ag_group.specs.Blank.{IsBlankDisk};
 
 mod messages;
 mod nodes;
 
+use crate::fault::StepFault;
 use crate::links::Links;
-use crate::opening::{copy_of, no_tokens, opening_links, opening_nodes};
+use crate::opening::{opening_nodes, opening_parts};
 use ag_model::answer::Answer;
 use ag_model::config::{Config, Register, Token};
 use ag_model::event::{Event, Who};
 use ag_model::value::NoMemory;
 use ag_node::node::Node;
-use ag_node::opening::synced_at_opening;
 use ag_node::site::Site;
+use ag_outside::disk::Disk;
 use std::alloc::Global;
 use std::marker::Model;
 
-/// The group, which a contract sees as the group of the rules.
+/// The group, each node over a disk of its own. A contract sees it as the group of the rules, with how often each disk has
+/// failed.
 #[derive(Drop)]
-pub struct Group {
+pub struct Group<D: Disk> {
     config: Config,
-    nodes: Vec<Node>,
+    nodes: Vec<Node<D>>,
     links: Vec<Links>,
     register: Register,
     tokens: Vec<Option<Token>>,
 }
 
-impl Model for Group {
+impl<D: Disk> Model for Group<D> {
     ghost use Rattle.std.specs.Prelude.{length};
-    ghost use Rattle.ag_rules.specs.Group.{Group};
     ghost use Rattle.ag_group.specs.Groups.{IsGroup};
+    ghost use Rattle.ag_group.specs.Seen.{GroupView, faults_of, group_of};
 
-    ghost Value = { Group };
+    ghost Value = { GroupView };
 
-    ghost view = { λ g. record { config = g.config; replicas = g.nodes.items; links = g.links.items; register = g.register; tokens = g.tokens.items } };
+    ghost view = { λ g. record { group = group_of g.config g.nodes.items g.links.items g.register g.tokens.items; faults = faults_of g.nodes.items } };
 
     ghost invariant = { λ g. IsGroup g.config g.nodes.items g.links.items g.register (length g.tokens.items) };
 }
 
-impl Group {
-    /// The group at the opening: A leads, and the others follow it.
+impl<D: Disk> Group<D> {
+    /// The group at the opening, each node over the next of these disks: A leads, and the others follow it. Where it can't
+    /// open the disks come back in their order; where memory is refused it may be fewer.
     #[tactic(auto, unfolding(ag_rules::specs::Group::opening))]
-    pub fn create(alloc: Global, config: &Config) -> Result<Group, NoMemory>
-        requires { IsConfig config.now }
-        ensures opening { IfOk result (λ group. group ≡ opening config.now) }
+    pub fn create(
+        alloc: Global,
+        config: &Config,
+        disks: Vec<D>,
+    ) -> Result<Group<D>, (StepFault, Vec<D>)>
+        requires config { IsConfig config.now }
+        requires each { length disks.items ≡ length config.now.modes }
+        requires fit { AllByRecursion (λ d. IsBlankDisk (D.size d) (D.keeps d) (D.reads d)) disks.items }
+        ensures opening { IfOk result (λ g. g.group ≡ opening config.now) }
+        ensures faults { IfOk result (λ g. length g.faults ≡ length config.now.modes) }
+        ensures back { IfErr result (λ x. x.0 ≢ StepFault.NoMemory → length x.1.items ≡ length disks.items) }
+        ensures fault { IfErr result (λ x. (n : ℕ) → x.0 ≡ StepFault.DiskFault n → HasRisen (get_or (map D.faults disks.items) n 0) (get_or (map D.faults x.1.items) n 0)) }
+        ensures lawful { IfErr result (λ x. (n : ℕ) → x.0 ≡ StepFault.Unlawful n → ⊥) }
     {
-        let modes = config.modes.as_slice();
-        let register = Register {
-            term: 1,
-            primary: 0,
-            synced: synced_at_opening(modes)?,
-            suspended: 0,
+        let Ok(parts) = opening_parts(alloc, config) else {
+            return Err((StepFault::NoMemory, disks));
         };
-        Ok(Group {
-            config: copy_of(config)?,
-            nodes: opening_nodes(alloc, config, modes)?,
-            links: opening_links(alloc, modes.len())?,
-            register,
-            tokens: no_tokens(alloc)?,
-        })
+        match opening_nodes(alloc, config, disks) {
+            Ok(nodes) => Ok(Group {
+                config: parts.config,
+                nodes,
+                links: parts.links,
+                register: parts.register,
+                tokens: parts.tokens,
+            }),
+            Err(e) => Err(e),
+        }
     }
 
     /// One event, which its suffix may stop in a write, or have a call of its disk fail.
     #[tactic(auto, unfolding(ag_rules::specs::Next::done))]
-    pub fn step(&mut self, alloc: Global, event: &Event) -> Result<Answer, NoMemory>
+    pub fn step(&mut self, alloc: Global, event: &Event) -> Result<Answer, StepFault>
         requires built { IsBuilt event.now }
-        requires event { IsEvent self.old.config event.now }
+        requires event { IsEvent self.old.group.config event.now }
         requires values { HasValues event.now }
-        ensures allowed { IfOk result (IsAllowed self.old event.now) }
-        ensures next { OnOk result (self.new ≡ next self.old event.now) }
+        ensures allowed { IfOk result (IsAllowed self.old.group event.now) }
+        ensures next { OnOk result (self.new.group ≡ next self.old.group event.now) }
         // A refused event leaves the group, but for the named refusals.
-        ensures refused { IfOk result (λ a. IsLeft event.now a → self.new ≡ self.old) }
-        ensures config { OnOk result (self.new.config ≡ self.old.config) }
+        ensures refused { IfOk result (λ a. IsLeft event.now a → self.new.group ≡ self.old.group) }
+        ensures config { OnOk result (self.new.group.config ≡ self.old.group.config) }
+        ensures fault { (n : ℕ) → result ≡ Err (StepFault.DiskFault n) → HasRisen (get_or self.old.faults n 0) (get_or self.new.faults n 0) }
+        ensures lawful { (n : ℕ) → result ≡ Err (StepFault.Unlawful n) → ⊥ }
     {
         match event {
             Event::Harden { node, suffix } => {
@@ -122,13 +139,13 @@ impl Group {
     fn quiet_step(&mut self, alloc: Global, event: &Event) -> Result<Answer, NoMemory>
         requires built { IsBuilt event.now }
         requires quiet { WritesNothing event.now }
-        requires event { IsEvent self.old.config event.now }
+        requires event { IsEvent self.old.group.config event.now }
         requires values { HasValues event.now }
-        ensures answer { IfOk result (λ a. a ≡ (plan_of self.old event.now).answer) }
-        ensures after { OnOk result (self.new ≡ (plan_of self.old event.now).after) }
-        ensures writes { OnOk result ((plan_of self.old event.now).writes ≡ []) }
-        ensures refused { IfOk result (λ a. IsLeft event.now a → self.new ≡ self.old) }
-        ensures config { OnOk result (self.new.config ≡ self.old.config) }
+        ensures answer { IfOk result (λ a. a ≡ (plan_of self.old.group event.now).answer) }
+        ensures after { OnOk result (self.new.group ≡ (plan_of self.old.group event.now).after) }
+        ensures writes { OnOk result ((plan_of self.old.group event.now).writes ≡ []) }
+        ensures refused { IfOk result (λ a. IsLeft event.now a → self.new.group ≡ self.old.group) }
+        ensures config { OnOk result (self.new.group.config ≡ self.old.group.config) }
     {
         match event {
             Event::Set { node, pairs, .. } => {
@@ -193,8 +210,8 @@ impl Group {
     /// Where an event of replica n happens.
     fn site(&self, n: u8) -> Site
         ensures number { result.number ≡ n }
-        ensures pages { result.pages ≡ self.now.config.pages }
-        ensures store { result.store ≡ self.now.register }
+        ensures pages { result.pages ≡ self.now.group.config.pages }
+        ensures store { result.store ≡ self.now.group.register }
     {
         Site {
             number: n,
@@ -205,9 +222,9 @@ impl Group {
 
     /// The replica that a word names.
     fn named(&self, who: &Who) -> u8
-        requires { IsWho self.now.config who.now }
-        ensures is { result ≡ named self.now who.now }
-        ensures within { result < length self.now.config.modes }
+        requires { IsWho self.now.group.config who.now }
+        ensures is { result ≡ named self.now.group who.now }
+        ensures within { result < length self.now.group.config.modes }
     {
         match who {
             Who::Letter(n) => *n,

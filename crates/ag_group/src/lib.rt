@@ -2,10 +2,13 @@
 #![tactic(auto)]
 
 mod events;
+pub mod fault;
 pub mod group;
 mod links;
 mod opening;
 pub mod play;
 pub mod run;
 pub mod status;
+#[cfg(test)]
+mod tests;
 mod words;

@@ -19,7 +19,7 @@ use Rattle.ag_outside.specs.Disks.{Content, Image, writes, put_all}
 use Rattle.ag_outside.specs.Calls.{Piece, TakesAll, FailsOnTheWay}
 use Rattle.ag_outside.specs.Scripts.{ScriptedView, kept}
 use Rattle.ag_outside.specs.Shown.{reads_of, was_or_wrote, did_of}
-use Rattle.ag_logstore.specs.Stored.{Stored, sectors_of}
+use Rattle.ag_logstore.specs.Stored.{Stored, sectors_of, log_start, log_end, IsLogSector}
 use Rattle.ag_logstore.specs.LogOf.{IsLogOf}
 use Rattle.ag_logstore.specs.Stores.{StoreView, sector_after, stored_by, IsCurrent, IsReady, Follows}
 use Rattle.ag_logstore.proofs.Standing.{count_of_block, few_sectors, wrote_within}
@@ -34,14 +34,21 @@ use Rattle.ag_kept.specs.Ending.{next, IsSettled, EndsBy, WentThrough, reach_of}
 use Rattle.ag_kept.specs.Stopping.{stopped_image, keeps_block}
 use Rattle.ag_kept.specs.Standing.{HasLog, LeavesLog, reached_log}
 use Rattle.ag_kept.proofs.Calls.{ordered, leads_later, write_ends, went_through}
-use Rattle.ag_kept.proofs.Stops.{below_stays, stopped_log, stopped_greatest}
+use Rattle.ag_kept.proofs.Stops.{kept_wrote, stopped_log, stopped_greatest}
 use Rattle.ag_kept.proofs.Orders.{far_stop, far_fail, far_end, count_tells}
 
--- writes in the log leave the master
-pub master_stays : (image : Image) (at : ℕ) (ss : List (List ℕ)) → 0 < at → put_all image (writes at ss) 0 ≡ image 0
-master_stays image at ss low = elim (was_or_wrote (writes at ss) image 0) [
+-- writes in the log leave each other sector
+pub others_stay : (image : Image) (at x : ℕ) (ss : List (List ℕ)) → log_start ≤ at → at + length ss ≤ log_end → (IsLogSector x → ⊥) → put_all image (writes at ss) x ≡ image x
+others_stay image at x ss low high other = elim (was_or_wrote (writes at ss) image x) [
   | inl was ↦ was
-  | inr wrote ↦ absurd (omega (arith, low, (wrote_within at 0 ss _ wrote).0))
+  | inr wrote ↦ let in_it = wrote_within at x ss _ wrote in absurd (other (omega (arith, low, in_it.0), omega (arith, high, in_it.1)))
+]
+
+-- and so where a mask keeps some of them
+pub others_stay_masked : (image : Image) (mask at x : ℕ) (ss : List (List ℕ)) → log_start ≤ at → at + length ss ≤ log_end → (IsLogSector x → ⊥) → put_all image (kept mask 0 (writes at ss)) x ≡ image x
+others_stay_masked image mask at x ss low high other = elim (was_or_wrote (kept mask 0 (writes at ss)) image x) [
+  | inl was ↦ was
+  | inr wrote ↦ let in_it = wrote_within at x ss _ (kept_wrote mask 0 (writes at ss) x _ wrote) in absurd (other (omega (arith, low, in_it.0), omega (arith, high, in_it.1)))
 ]
 
 -- how a block came so far
@@ -61,6 +68,10 @@ module _ {D : Type 0} (keeps : D → Bool) (reads : D → Image) (faults : D →
     (order : old.order ≡ order_of suffix) (none : old.writes ≡ 0) (no_calls : old.calls ≡ 0) (k : IsTrue (keeps old.disk)) (cur : IsCurrent (reads_of reads old) s) (f : Follows s b) where
   abbrev the_piece : Piece
   the_piece = record { first = sector_after s.log; sectors = sectors_of b }
+
+  -- the block's sectors are the log's
+  within : sector_after s.log + length (sectors_of b) ≤ log_end
+  within = omega (arith, f.room, count_of_block b (is_writable s b f))
 
   first_write : next old.writes ≡ 1
   first_write = ap next none
@@ -91,13 +102,13 @@ module _ {D : Type 0} (keeps : D → Bool) (reads : D → Image) (faults : D →
         far = ap (λ (w : Bool). Stop w) all ∙ sym (far_stop suffix mask n 2 stop);
         log = record {
           has = subst (λ (w : Bool). HasLog (reads_of reads new) s.cut s.incarnation (reached_log s b.records (Stop w))) (sym all) (subst (λ image. HasLog image s.cut s.incarnation (reached_log s b.records (Stop (keeps_block mask b)))) (sym now) has);
-          master = ap (λ (image : Image). image 0) now ∙ below_stays (reads_of reads old) mask 0 (sector_after s.log) 0 (sectors_of b) (omega arith);
+          others = λ at other. ap (λ (image : Image). image at) now ∙ others_stay_masked (reads_of reads old) mask (sector_after s.log) at (sectors_of b) (omega arith) within other;
         };
         settled = e.4;
       }
   came Device e = record {
     far = elim e.0 [ inl one ↦ was_fault 1 (omega arith) (one ∙ ap FailOrder first_call) | inr two ↦ was_fault 2 (omega arith) (two ∙ ap FailOrder second_call) ];
-    log = record { has = subst (λ image. HasLog image s.cut s.incarnation s.log) (sym (e.2 k)) as_before; master = ap (λ (image : Image). image 0) (e.2 k) };
+    log = record { has = subst (λ image. HasLog image s.cut s.incarnation s.log) (sym (e.2 k)) as_before; others = λ at other. ap (λ (image : Image). image at) (e.2 k) };
     settled = e.1;
   }
   came Inner e = tt
@@ -172,7 +183,7 @@ module _ {D : Type 0} (keeps : D → Bool) (reads : D → Image) (faults : D →
       let now = ready.current (subst IsTrue (sym keeps_same) k) in
       record {
         has = record { is = log held; greatest = λ at in_log. omega (arith, now.greatest at in_log, same) };
-        master = ap (λ (image : Image). image 0) (written held) ∙ master_stays (reads_of reads armed) (sector_after s.log) (sectors_of b) (omega arith) ∙ ap (λ (v : ScriptedView D). reads_of reads v 0) is;
+        others = λ at other. ap (λ (image : Image). image at) (written held) ∙ others_stay (reads_of reads armed) (sector_after s.log) at (sectors_of b) (omega arith) (omega (arith, f.room, count_of_block b (is_writable s b f))) other ∙ ap (λ (v : ScriptedView D). reads_of reads v at) is;
       }
 
 -- a block that goes to a store

@@ -19,17 +19,17 @@ use Rattle.ag_logstore.proofs.LogEnds.{rises_le}
 use Rattle.ag_logstore.proofs.Raising.{raises}
 use Rattle.ag_kept.specs.declared.reach.Reach.{Reach}
 use Rattle.ag_kept.specs.declared.reach.Reach.TheVariants.{End, Stop, Fault}
-use Rattle.ag_kept.specs.Kept.{Kept, master_on, master_of, kept_on, started}
+use Rattle.ag_kept.specs.Kept.{Kept, SamePages, master_on, master_of, kept_on, started}
 use Rattle.ag_kept.specs.LogOn.{log_on}
 use Rattle.ag_kept.specs.Standing.{HasLog, IsHome, LeavesLog}
 use Rattle.ag_kept.specs.Starting.{own_log, raised_master, with_master, raised_so_far}
 use Rattle.ag_kept.proofs.Finding.{log_on_is}
 
-abbrev pub kept_so : Log → ℕ → ℕ → Bool → Kept
-kept_so log incarnation cut loaded = record { log = log; incarnation = incarnation; cut = cut; loaded = loaded }
+abbrev pub kept_so : Log → ℕ → ℕ → ℕ → Bool → Kept
+kept_so log incarnation cut redo loaded = record { log = log; incarnation = incarnation; cut = cut; redo = redo; loaded = loaded }
 
 -- an image with this master and this log
-module _ (image : Image) (m : Master) (log : Log) (e : master_on image ≡ m) (plain : m ≡ master_of m.incarnation m.cut m.pages m.replica) (fits : HasSpelling m) (spelled : or_zeros (image 0) ≡ spelling m) (least : 1 ≤ m.incarnation) (has : HasLog image m.cut m.incarnation log) where
+module _ (image : Image) (m : Master) (log : Log) (e : master_on image ≡ m) (plain : m ≡ master_of m.incarnation m.cut m.redo m.pages m.replica) (fits : HasSpelling m) (spelled : or_zeros (image 0) ≡ spelling m) (least : 1 ≤ m.incarnation) (has : HasLog image m.cut m.incarnation log) where
   mine : HasLog image (master_on image).cut (master_on image).incarnation log
   mine = subst (λ (x : Master). HasLog image x.cut x.incarnation log) (sym e) has
 
@@ -38,26 +38,50 @@ module _ (image : Image) (m : Master) (log : Log) (e : master_on image ≡ m) (p
 
   pub home_is : IsHome image
   home_is = record {
-    plain = subst (λ (x : Master). x ≡ master_of x.incarnation x.cut x.pages x.replica) (sym e) plain;
+    plain = subst (λ (x : Master). x ≡ master_of x.incarnation x.cut x.redo x.pages x.replica) (sym e) plain;
     fits = subst HasSpelling (sym e) fits;
     spelled = spelled ∙ ap spelling (sym e);
     least = subst (λ (x : Master). 1 ≤ x.incarnation) (sym e) least;
     log = subst (λ l. HasLog image (master_on image).cut (master_on image).incarnation l) (sym found) mine;
   }
 
-  pub kept_is : (loaded : Bool) → kept_on image loaded ≡ kept_so log m.incarnation m.cut loaded
-  kept_is loaded = ap (λ l. kept_so l (master_on image).incarnation (master_on image).cut loaded) found ∙ ap (λ (x : Master). kept_so log x.incarnation x.cut loaded) e
+  pub kept_is : (loaded : Bool) → kept_on image loaded ≡ kept_so log m.incarnation m.cut m.redo loaded
+  kept_is loaded = ap (λ l. kept_so l (master_on image).incarnation (master_on image).cut (master_on image).redo loaded) found ∙ ap (λ (x : Master). kept_so log x.incarnation x.cut x.redo loaded) e
+
+-- a write of the master leaves the images of the pages
+pub master_leaves_pages : (image : Image) (m : Master) → SamePages image (with_master image m)
+master_leaves_pages image m at is = ap (λ (b : Bool). if b then Some (spelling m) else image at) (ne_eqb at 0 (λ e. absurd (omega (arith, e, is.0))))
+
+pub raise_leaves_pages : (image : Image) (m : Master) (r : Reach) → SamePages image (raised_so_far image m r)
+raise_leaves_pages image m End at is = master_leaves_pages image m at is
+raise_leaves_pages image m (Stop true) at is = master_leaves_pages image m at is
+raise_leaves_pages image m (Stop false) at is = refl
+raise_leaves_pages image m Fault at is = refl
+
+-- and so does a write of the log
+pub log_leaves_pages : (image after : Image) (cut incarnation : ℕ) (log : Log) → LeavesLog image cut incarnation log after → SamePages image after
+log_leaves_pages image after cut incarnation log l at is = l.others at (λ in_log. absurd (omega (arith, is.1, in_log.0)))
+
+-- images that read the same have the same pages
+pub reads_leave_pages : (old new : Image) → new ≡ old → SamePages old new
+reads_leave_pages old new e at is = ap (λ (i : Image). i at) e
+
+pub pages_then : (old mid new : Image) → SamePages old mid → SamePages mid new → SamePages old new
+pages_then old mid new first later at is = later at is ∙ first at is
 
 -- the master stays where the log was written
 module _ (image after : Image) (log : Log) (h : IsHome image) (l : LeavesLog image (master_on image).cut (master_on image).incarnation log after) where
+  first_stays : after 0 ≡ image 0
+  first_stays = l.others 0 (λ is. absurd (omega (arith, is.0)))
+
   pub same_master : master_on after ≡ master_on image
-  same_master = ap (λ c. fields (or_zeros c)) l.master
+  same_master = ap (λ c. fields (or_zeros c)) first_stays
 
   pub home_stays : IsHome after
-  home_stays = home_is after (master_on image) log same_master h.plain h.fits (ap or_zeros l.master ∙ h.spelled) h.least l.has
+  home_stays = home_is after (master_on image) log same_master h.plain h.fits (ap or_zeros first_stays ∙ h.spelled) h.least l.has
 
-  pub kept_stays : (loaded : Bool) → kept_on after loaded ≡ kept_so log (master_on image).incarnation (master_on image).cut loaded
-  kept_stays loaded = kept_is after (master_on image) log same_master h.plain h.fits (ap or_zeros l.master ∙ h.spelled) h.least l.has loaded
+  pub kept_stays : (loaded : Bool) → kept_on after loaded ≡ kept_so log (master_on image).incarnation (master_on image).cut (master_on image).redo loaded
+  kept_stays loaded = kept_is after (master_on image) log same_master h.plain h.fits (ap or_zeros first_stays ∙ h.spelled) h.least l.has loaded
 
 -- the last end is where the log ends
 last_end : (low high : ℕ) (es : List ℕ) → RisesTo low high es → (high ≡ low) ⊎ Contains es high
@@ -121,7 +145,7 @@ module _ (image : Image) (h : IsHome image) (small : (master_on image).incarnati
   pub next_fits : HasSpelling next
   next_fits = record { kept = record { format = h.fits.kept.format; state = h.fits.kept.state }; incarnation = small; term = h.fits.term; cut = short; undo = h.fits.undo; redo = h.fits.redo; pages = h.fits.pages; foreign = h.fits.foreign }
 
-  next_plain : next ≡ master_of (m.incarnation + 1) (length log.records) m.pages m.replica
+  next_plain : next ≡ master_of (m.incarnation + 1) (length log.records) m.redo m.pages m.replica
   next_plain = ap (λ (x : Master). raised_master x (length log.records)) h.plain
 
   now_has : HasLog now (length log.records) (m.incarnation + 1) log
@@ -130,7 +154,7 @@ module _ (image : Image) (h : IsHome image) (small : (master_on image).incarnati
   pub raised_home : IsHome now
   raised_home = home_is now next log (fields-spelling next next_fits) next_plain next_fits refl (omega arith) now_has
 
-  pub raised_kept : (loaded : Bool) → kept_on now loaded ≡ kept_so log (m.incarnation + 1) (length log.records) loaded
+  pub raised_kept : (loaded : Bool) → kept_on now loaded ≡ kept_so log (m.incarnation + 1) (length log.records) m.redo loaded
   raised_kept loaded = kept_is now next log (fields-spelling next next_fits) next_plain next_fits refl (omega arith) now_has loaded
 
   -- the same once a start came so far

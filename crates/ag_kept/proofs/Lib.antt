@@ -1,11 +1,12 @@
-mod Stops
-mod Deciding
-mod Finding
-mod Calls
-mod Orders
-mod Coming
-mod Homes
-mod Beginning
-mod Started
-mod Stores
-mod Opened
+pub mod Stops
+pub mod Deciding
+pub mod Finding
+pub mod Calls
+pub mod Orders
+pub mod Redoing
+pub mod Coming
+pub mod Homes
+pub mod Beginning
+pub mod Started
+pub mod Stores
+pub mod Opened

@@ -88,7 +88,7 @@ abbrev pub opening_log : Log
 opening_log = with_block no_log (Term 1 ∷ [])
 
 -- once the master is written after the opening block
-module _ (after : Image) (m : Master) (pages replica : ℕ) (m_is : m ≡ master_of 1 0 pages replica) (fits : HasSpelling m) (has : HasLog after 0 1 opening_log) where
+module _ (after : Image) (m : Master) (pages replica : ℕ) (m_is : m ≡ master_of 1 0 1 pages replica) (fits : HasSpelling m) (has : HasLog after 0 1 opening_log) where
   abbrev now : Image
   now = with_master after m
 
@@ -107,8 +107,8 @@ module _ (after : Image) (m : Master) (pages replica : ℕ) (m_is : m ≡ master
     greatest = λ at is. omega (arith, has.greatest at is, ap (λ bytes. (header_of bytes).head.incarnation) (other at is));
   }))
 
-  plain : m ≡ master_of m.incarnation m.cut m.pages m.replica
-  plain = subst (λ (x : Master). x ≡ master_of x.incarnation x.cut x.pages x.replica) (sym m_is) refl
+  plain : m ≡ master_of m.incarnation m.cut m.redo m.pages m.replica
+  plain = subst (λ (x : Master). x ≡ master_of x.incarnation x.cut x.redo x.pages x.replica) (sym m_is) refl
 
   least : 1 ≤ m.incarnation
   least = omega (arith, incarnation_is)
@@ -117,7 +117,7 @@ module _ (after : Image) (m : Master) (pages replica : ℕ) (m_is : m ≡ master
   opened_home = home_is now m opening_log (fields-spelling m fits) plain fits refl least has_now
 
   pub opened_kept : kept_on now true ≡ opening_kept
-  opened_kept = kept_is now m opening_log (fields-spelling m fits) plain fits refl least has_now true ∙ ap (λ (x : Master). record opening_kept { incarnation = x.incarnation; cut = x.cut }) m_is
+  opened_kept = kept_is now m opening_log (fields-spelling m fits) plain fits refl least has_now true ∙ ap (λ (x : Master). record opening_kept { incarnation = x.incarnation; cut = x.cut; redo = x.redo }) m_is
 
   pub opened_current : (s : StoreView) → IsCurrent after s → IsCurrent now s
   opened_current s cur = current_alone after now s cur other
@@ -146,7 +146,7 @@ pub opened_store_is : (s t : StoreView) (records : List Record) → s ≡ blank_
 opened_store_is s t records s_is records_is is = is ∙ ap (λ (x : StoreView). record x { log = with_block x.log records }) s_is ∙ ap (λ (rs : List Record). record blank_store { log = with_block no_log rs }) records_is
 
 -- the disk and memory at the end
-module _ {D : Type 0} (keeps : D → Bool) (reads : D → Image) (mid new : ScriptedView D) (m : Master) (pages replica : ℕ) (m_is : m ≡ master_of 1 0 pages replica) (fits : HasSpelling m) (has : HasLog (reads_of reads mid) 0 1 opening_log) (k : IsTrue (keeps mid.disk))
+module _ {D : Type 0} (keeps : D → Bool) (reads : D → Image) (mid new : ScriptedView D) (m : Master) (pages replica : ℕ) (m_is : m ≡ master_of 1 0 1 pages replica) (fits : HasSpelling m) (has : HasLog (reads_of reads mid) 0 1 opening_log) (k : IsTrue (keeps mid.disk))
     (is : reads_of reads new ≡ with_master (reads_of reads mid) m) where
   pub opened_at_home : IsSettled keeps mid new → IsAtHome keeps reads new
   opened_at_home settled = record { modelled = subst IsTrue (sym settled.keeps_same) k; unsynced = settled.unsynced; home = subst IsHome (sym is) (opened_home (reads_of reads mid) m pages replica m_is fits has) }

@@ -22,13 +22,13 @@ use Rattle.ag_kept.specs.declared.reach.Reach.{Reach}
 use Rattle.ag_kept.specs.declared.reach.Reach.TheVariants.{End, Stop, Fault}
 use Rattle.ag_kept.specs.Reaching.{how_far, order_of}
 use Rattle.ag_kept.specs.Ending.{next, IsSettled, MayReach}
-use Rattle.ag_kept.specs.Kept.{master_on, kept_on, started}
+use Rattle.ag_kept.specs.Kept.{SamePages, master_on, kept_on, started}
 use Rattle.ag_kept.specs.Standing.{IsHome, IsMemory, IsAtHome}
 use Rattle.ag_kept.specs.Starting.{own_log, raised_master, raised_so_far, WasLoaded}
 use Rattle.ag_kept.proofs.Calls.{ordered}
 use Rattle.ag_kept.proofs.Orders.{far_stop, far_fail, far_end}
 use Rattle.ag_kept.proofs.Finding.{log_on_is}
-use Rattle.ag_kept.proofs.Homes.{cut_at_end, can_cut, rises_of, raised_current, next_fits, so_far_home, end_kept, so_far_kept}
+use Rattle.ag_kept.proofs.Homes.{cut_at_end, can_cut, rises_of, raised_current, next_fits, so_far_home, end_kept, so_far_kept, raise_leaves_pages}
 
 -- what was loaded, where something was
 pub was_loaded : {D : Type 0} (keeps : D → Bool) (reads : D → Image) (faults : D → ℕ) (armed mid : ScriptedView D) (m : Master) (found : Option StoreView) (s : StoreView) → found ≡ Some s
@@ -155,3 +155,7 @@ module _ {D : Type 0} (keeps : D → Bool) (reads : D → Image) (faults : D →
             synced = λ k. only;
           });
         }
+
+-- the pages once a start came so far
+pub started_pages : (old mid new : Image) (m : Master) (r : Reach) → mid ≡ old → new ≡ raised_so_far mid m r → SamePages old new
+started_pages old mid new m r same is at page = ap (λ (i : Image). i at) is ∙ raise_leaves_pages mid m r at page ∙ ap (λ (i : Image). i at) same

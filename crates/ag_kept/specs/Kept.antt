@@ -11,12 +11,13 @@ use Rattle.ag_kept.specs.declared.reach.Reach.{Reach}
 use Rattle.ag_kept.specs.declared.reach.Reach.TheVariants.{End, Stop, Fault}
 use Rattle.ag_kept.specs.LogOn.{log_on}
 
--- what stands on the disk: the log, the incarnation, and the LSN above which no block of an earlier incarnation counts;
--- and whether the log is in memory too
+-- what stands on the disk: the log, the incarnation, the LSN above which no block of an earlier incarnation counts, and the
+-- LSN from which redo starts; and whether the log is in memory too
 pub record Kept : Type 0 where
   pub log : Log
   pub incarnation : ℕ
   pub cut : ℕ
+  pub redo : ℕ
   pub loaded : Bool
 
 -- what is seen of a store: what it keeps, unless a fault has left that open, and how often the disk below has failed
@@ -35,12 +36,21 @@ kept_on image loaded = record {
   log = log_on image (master_on image).cut (master_on image).incarnation;
   incarnation = (master_on image).incarnation;
   cut = (master_on image).cut;
+  redo = (master_on image).redo;
   loaded = loaded;
 }
 
+-- a sector of the pages' images
+abbrev pub IsPageSector : ℕ → Type 0
+IsPageSector at = (64 ≤ at) × (at < 33088)
+
+-- the images of all pages are the same
+abbrev pub SamePages : Image → Image → Type 0
+SamePages old new = (at : ℕ) → IsPageSector at → new at ≡ old at
+
 -- the master of a replica in its first term
-abbrev pub master_of : ℕ → ℕ → ℕ → ℕ → Master
-master_of incarnation cut pages replica = record { format = 1; state = 0; incarnation = incarnation; term = 1; cut = cut; undo = 0; redo = 1; pages = pages; replica = replica; foreign = [] }
+abbrev pub master_of : ℕ → ℕ → ℕ → ℕ → ℕ → Master
+master_of incarnation cut redo pages replica = record { format = 1; state = 0; incarnation = incarnation; term = 1; cut = cut; undo = 0; redo = redo; pages = pages; replica = replica; foreign = [] }
 
 -- memory is lost
 abbrev pub forgotten : Kept → Kept
@@ -68,4 +78,4 @@ started k Fault = k
 
 -- what is kept as a group opens: the block that starts term 1
 abbrev pub opening_kept : Kept
-opening_kept = record { log = record { records = Term 1 ∷ []; ends = 1 ∷ [] }; incarnation = 1; cut = 0; loaded = true }
+opening_kept = record { log = record { records = Term 1 ∷ []; ends = 1 ∷ [] }; incarnation = 1; cut = 0; redo = 1; loaded = true }

@@ -23,7 +23,7 @@ pub record HasLog (image : Image) (cut incarnation : ℕ) (log : Log) : Type 0 w
 
 -- an image is that of a replica: its first sector is a master of the first term, and it has the log of that
 pub record IsHome (image : Image) : Type 0 where
-  pub plain : master_on image ≡ master_of (master_on image).incarnation (master_on image).cut (master_on image).pages (master_on image).replica
+  pub plain : master_on image ≡ master_of (master_on image).incarnation (master_on image).cut (master_on image).redo (master_on image).pages (master_on image).replica
   pub fits : HasSpelling (master_on image)
   pub spelled : or_zeros (image 0) ≡ spelling (master_on image)
   pub least : 1 ≤ (master_on image).incarnation
@@ -60,7 +60,7 @@ reached_log s new End = with_block s.log new
 reached_log s new (Stop whole) = if whole then with_block s.log new else s.log
 reached_log s new Fault = s.log
 
--- a write in the log leaves this log, and the master as it was
+-- a write in the log leaves this log, and each sector that is none of the log's as it was
 pub record LeavesLog (image : Image) (cut incarnation : ℕ) (log : Log) (after : Image) : Type 0 where
   pub has : HasLog after cut incarnation log
-  pub master : after 0 ≡ image 0
+  pub others : (at : ℕ) → (IsLogSector at → ⊥) → after at ≡ image at

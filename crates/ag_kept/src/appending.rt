@@ -41,7 +41,7 @@ fn head_fits(term: u64, first: u64)
 }
 
 /// Appends a block to a store, and tells how far it came.
-pub(crate) fn append<D: Disk>(
+pub fn append<D: Disk>(
     store: &mut LogStore,
     disk: &mut Scripted<D>,
     block: &Block,

@@ -9,7 +9,7 @@ ghost use Rattle.ag_outside.specs.Shown.{reads_of, holds_of};
 ghost use Rattle.ag_logstore.specs.Stored.{log_end, no_log};
 ghost use Rattle.ag_logstore.specs.Stores.{IsReady};
 ghost use Rattle.ag_kept.specs.Ending.{IsSettled};
-ghost use Rattle.ag_kept.specs.Kept.{master_of, kept_on, opening_kept};
+ghost use Rattle.ag_kept.specs.Kept.{master_of, kept_on, opening_kept, SamePages};
 ghost use Rattle.ag_kept.specs.Standing.{IsAtHome, IsMemory, IsBlank};
 ghost use Rattle.ag_kept.specs.Starting.{with_master};
 
@@ -30,7 +30,7 @@ use std::alloc::Global;
 
 /// The master at the opening, with so many pages, of the replica of this number.
 fn opening_master(pages: u16, replica: u8) -> Master
-    ensures is { result ≡ master_of 1 0 pages replica }
+    ensures is { result ≡ master_of 1 0 1 pages replica }
     ensures fits { HasSpelling result }
 {
     let foreign = PageSet::empty();
@@ -68,6 +68,7 @@ fn load_blank<D: Disk>(alloc: Global, disk: &mut Scripted<D>) -> Result<LogStore
     requires place { log_end ≤ D.size disk.old.disk }
     requires blank { IsBlank D.keeps D.reads disk.old }
     ensures blank { OnOk result (IsBlank D.keeps D.reads disk.new) }
+    ensures same { OnOk result (reads_of D.reads disk.new ≡ reads_of D.reads disk.old) }
     ensures store { IfOk result (λ s. s ≡ record { log = no_log; cut = 0; incarnation = 1; is_closed = false }) }
     ensures ready { IfOk result (IsReady (D.keeps disk.new.disk) (reads_of D.reads disk.new) (holds_of D.keeps D.may_hold disk.new)) }
     ensures later { OnOk result (D.faults disk.old.disk ≤ D.faults disk.new.disk) }
@@ -83,7 +84,7 @@ fn load_blank<D: Disk>(alloc: Global, disk: &mut Scripted<D>) -> Result<LogStore
 }
 
 /// Saves a master outside of any order.
-fn save_freely<D: Disk>(disk: &mut Scripted<D>, master: &Master) -> Result<(), KeptFault>
+pub(crate) fn save_freely<D: Disk>(disk: &mut Scripted<D>, master: &Master) -> Result<(), KeptFault>
     requires place { log_end ≤ D.size disk.old.disk }
     requires keeps { IsTrue (D.keeps disk.old.disk) }
     requires unsynced { disk.old.unsynced ≡ [] }
@@ -116,11 +117,12 @@ fn write_opening<D: Disk>(
     requires ready { IsReady (D.keeps disk.old.disk) (reads_of D.reads disk.old) (holds_of D.keeps D.may_hold disk.old) store.old }
     requires block { block.now ≡ record { first = 1; term = 1; records = Term 1 ∷ [] } }
     requires payload { ArePayload block.now.records }
-    requires master { (pages : ℕ) × (replica : ℕ) × (master.now ≡ master_of 1 0 pages replica) }
+    requires master { (pages : ℕ) × (replica : ℕ) × (master.now ≡ master_of 1 0 1 pages replica) }
     requires fits { HasSpelling master.now }
     ensures home { OnOk result (IsAtHome D.keeps D.reads disk.new) }
     ensures memory { OnOk result (IsMemory D.keeps D.reads D.may_hold disk.new store.new) }
     ensures kept { OnOk result (kept_on (reads_of D.reads disk.new) true ≡ opening_kept) }
+    ensures pages { OnOk result (SamePages (reads_of D.reads disk.old) (reads_of D.reads disk.new)) }
     ensures later { OnOk result (D.faults disk.old.disk ≤ D.faults disk.new.disk) }
     ensures fault { IsErrOf result KeptFault.DiskFault → HasRisen (D.faults disk.old.disk) (D.faults disk.new.disk) }
     ensures size { D.size disk.new.disk ≡ D.size disk.old.disk }
@@ -131,8 +133,9 @@ fn write_opening<D: Disk>(
     }
 }
 
-/// Opens a store on a disk of zeros.
-pub(crate) fn open<D: Disk>(
+/// Opens a store on a disk of zeros, for so many pages and the replica of this number: the block that starts term 1 is
+/// written and synced, and then the master.
+pub fn open<D: Disk>(
     alloc: Global,
     disk: &mut Scripted<D>,
     pages: u16,
@@ -143,6 +146,7 @@ pub(crate) fn open<D: Disk>(
     ensures home { OnOk result (IsAtHome D.keeps D.reads disk.new) }
     ensures memory { IfOk result (IsMemory D.keeps D.reads D.may_hold disk.new) }
     ensures kept { OnOk result (kept_on (reads_of D.reads disk.new) true ≡ opening_kept) }
+    ensures pages { OnOk result (SamePages (reads_of D.reads disk.old) (reads_of D.reads disk.new)) }
     ensures later { OnOk result (D.faults disk.old.disk ≤ D.faults disk.new.disk) }
     ensures fault { IsErrOf result KeptFault.DiskFault → HasRisen (D.faults disk.old.disk) (D.faults disk.new.disk) }
     ensures size { D.size disk.new.disk ≡ D.size disk.old.disk }

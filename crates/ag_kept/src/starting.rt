@@ -11,7 +11,7 @@ ghost use Rattle.ag_master.specs.Spelling.{IsKept};
 ghost use Rattle.ag_master.specs.declared.sector.Loaded.TheVariants.{Is};
 ghost use Rattle.ag_master.specs.declared.master.Master.{Master};
 ghost use Rattle.ag_kept.specs.Ending.{IsSettled, next, MayReach};
-ghost use Rattle.ag_kept.specs.Kept.{master_on, kept_on, started};
+ghost use Rattle.ag_kept.specs.Kept.{master_on, kept_on, started, SamePages};
 ghost use Rattle.ag_kept.specs.Reaching.{how_far};
 ghost use Rattle.ag_kept.specs.Standing.{IsAtHome, IsMemory};
 ghost use Rattle.ag_kept.specs.Starting.{WasLoaded, raised_master, raised_so_far};
@@ -40,7 +40,7 @@ fn master_in(loaded: Loaded) -> Master
 }
 
 /// The master of a replica's disk. It is read outside of any order.
-pub(crate) fn read_master<D: Disk>(disk: &mut Scripted<D>) -> Result<Master, KeptFault>
+pub fn read_master<D: Disk>(disk: &mut Scripted<D>) -> Result<Master, KeptFault>
     requires place { log_end ≤ D.size disk.old.disk }
     requires home { IsAtHome D.keeps D.reads disk.old }
     ensures master { IfOk result (λ m. m ≡ master_on (reads_of D.reads disk.old)) }
@@ -123,7 +123,7 @@ pub(crate) fn raise<D: Disk>(
 }
 
 /// Starts from a disk by a suffix, and tells how far it came. At its end there is the store.
-pub(crate) fn start_on<D: Disk>(
+pub fn start_on<D: Disk>(
     alloc: Global,
     disk: &mut Scripted<D>,
     suffix: &Suffix,
@@ -135,6 +135,7 @@ pub(crate) fn start_on<D: Disk>(
     ensures home { OnOk result (IsAtHome D.keeps D.reads disk.new) }
     ensures kept { IfOk result (λ x. kept_on (reads_of D.reads disk.new) (is_some x.1) ≡ started (kept_on (reads_of D.reads disk.old) false) x.0) }
     ensures memory { IfOk result (λ x. MatchOption x.1 (Unit {0}) (IsMemory D.keeps D.reads D.may_hold disk.new)) }
+    ensures pages { OnOk result (SamePages (reads_of D.reads disk.old) (reads_of D.reads disk.new)) }
     ensures later { OnOk result (D.faults disk.old.disk ≤ D.faults disk.new.disk) }
     ensures fault { IsErrOf result KeptFault.DiskFault → HasRisen (D.faults disk.old.disk) (D.faults disk.new.disk) }
     ensures size { D.size disk.new.disk ≡ D.size disk.old.disk }
@@ -160,6 +161,7 @@ fn start_by<D: Disk>(
     ensures home { OnOk result (IsAtHome D.keeps D.reads disk.new) }
     ensures kept { IfOk result (λ x. kept_on (reads_of D.reads disk.new) (is_some x.1) ≡ started (kept_on (reads_of D.reads disk.old) false) x.0) }
     ensures memory { IfOk result (λ x. MatchOption x.1 (Unit {0}) (IsMemory D.keeps D.reads D.may_hold disk.new)) }
+    ensures pages { OnOk result (SamePages (reads_of D.reads disk.old) (reads_of D.reads disk.new)) }
     ensures later { OnOk result (D.faults disk.old.disk ≤ D.faults disk.new.disk) }
     ensures fault { IsErrOf result KeptFault.DiskFault → HasRisen (D.faults disk.old.disk) (D.faults disk.new.disk) }
     ensures size { D.size disk.new.disk ≡ D.size disk.old.disk }

@@ -156,6 +156,14 @@ impl<D: Disk> KeptStore<D> {
         }
     }
 
+    /// The disk below, as it is.
+    pub fn into_disk(self) -> D
+        ensures faults { D.faults result ≡ self.faults }
+    {
+        let KeptStore { disk, .. } = self;
+        disk.into_inner()
+    }
+
     /// Starts from the disk: it is synced and read, and the master saved with the next incarnation and the cut at the
     /// log's end. It tells how far it came.
     pub fn start(&mut self, alloc: Global, suffix: &Suffix) -> Result<Reach, KeptFault>

@@ -2,7 +2,7 @@
 ghost use Rattle.std.specs.Prelude.{◌≤◌, IfOk};
 ghost use Rattle.ag_record.specs.Spelling.{ArePayload};
 
-use crate::{KeptFault, KeptStore, Reach};
+use crate::{KeptFault, KeptStore, Reach, open, read_master, save_redo_start, start_on};
 use ag_logstore::{block_sectors_of, records_size};
 use ag_model::event::Suffix;
 use ag_model::list::ListOf;
@@ -10,6 +10,7 @@ use ag_model::message::Block;
 use ag_model::record::{Record, RecordList};
 use ag_model::value::{NoMemory, Value};
 use ag_outside::mem_disk::MemDisk;
+use ag_outside::scripted::Scripted;
 use std::alloc::Global;
 use std::process::Abort;
 use std::test::Fail;
@@ -223,6 +224,35 @@ fn the_disk_below_fails(rt: HostRuntime) -> Result<(), Fail> {
         let result = harden(&rt, alloc, &mut store, 1, &Suffix::Whole);
         assert_eq!(rt; result, Err(KeptFault::DiskFault), "call {call}");
         assert!(rt; !store.is_sound());
+    }
+    Ok(())
+}
+
+/// A store on a fresh disk, whose master is saved with this redo start and read again, and which then starts. The answer is
+/// the redo start that was read, and the end of the log at the start.
+fn with_redo_start(
+    rt: &impl Abort,
+    alloc: Global,
+    redo: u64,
+) -> Result<(u64, Option<u64>), KeptFault> {
+    let mut disk = Scripted::new(alloc, MemDisk::new(alloc, Vec::new(alloc), false));
+    let log = open(alloc, &mut disk, 16, 3)?;
+    assert_eq!(rt; log.end(), 1);
+    save_redo_start(&mut disk, redo)?;
+    let master = read_master(&mut disk)?;
+    assert_eq!(rt; master.replica, 3);
+    assert_eq!(rt; master.incarnation, 1);
+    let (_, started) = start_on(alloc, &mut disk, &Suffix::Whole)?;
+    Ok((master.redo, started.map(|log| log.end())))
+}
+
+#[test]
+fn the_redo_start_is_kept(rt: HostRuntime) -> Result<(), Fail> {
+    for redo in [1, 7, u64::MAX] {
+        let Ok(found) = with_redo_start(&rt, rt.alloc(), redo) else {
+            panic!(rt; "no answer");
+        };
+        assert_eq!(rt; found, (redo, Some(1)));
     }
     Ok(())
 }

@@ -16,7 +16,7 @@ use Rattle.ag_built.specs.Whole.{IsWhole}
 use Rattle.ag_kept.specs.declared.reach.Reach.{Reach}
 use Rattle.ag_kept.specs.declared.reach.Reach.TheVariants.{End, Stop, Fault}
 use Rattle.ag_node.specs.Activity.{Activity}
-use Rattle.ag_node.specs.Homes.{Home, hardened_home}
+use Rattle.ag_node.specs.Homes.{Home, hardened_home, but_faults}
 use Rattle.ag_node.specs.View.{node_of, kept_of, state_of}
 use Rattle.ag_node.specs.Nodes.{IsActivity, IsNode}
 use Rattle.ag_node.specs.Starting.{asleep, raised_one, woken_up}
@@ -81,17 +81,17 @@ down_reached a log ss pages buffer new bytes txn used true h k w = node_after_bl
 down_reached a log ss pages buffer new bytes txn used false h k w = h
 
 -- the home of a node that a stop or a fail takes down
-pub stopped_home : (h : Home) (new : List Record) (reach : Reach) → (reach ≡ End → ⊥) → (whole : Bool) × (hardened_home h new reach ≡ record { activity = fallen_activity h.activity; log = if whole then with_block h.log new else h.log })
+pub stopped_home : (h : Home) (new : List Record) (reach : Reach) → (reach ≡ End → ⊥) → (whole : Bool) × (hardened_home h new reach ≡ record { activity = fallen_activity h.activity; log = if whole then with_block h.log new else h.log; faults = h.faults })
 stopped_home h new End not = absurd (not refl)
 stopped_home h new (Stop true) not = (true, refl)
 stopped_home h new (Stop false) not = (false, refl)
 stopped_home h new Fault not = (false, refl)
 
 pub node_stopped : (h h' : Home) (ss : List Stripe) (pages : ℕ) (buffer new : List Record) (bytes txn : ℕ) (used : List ℕ) (reach : Reach)
-    → IsNode (fallen_activity h.activity) h.log ss pages buffer bytes txn used → 0 < length new → IsWhole new → (reach ≡ End → ⊥) → h' ≡ hardened_home h new reach → IsNode h'.activity h'.log ss pages buffer bytes txn used
+    → IsNode (fallen_activity h.activity) h.log ss pages buffer bytes txn used → 0 < length new → IsWhole new → (reach ≡ End → ⊥) → h' ≡ but_faults (hardened_home h new reach) h'.faults → IsNode h'.activity h'.log ss pages buffer bytes txn used
 node_stopped h h' ss pages buffer new bytes txn used reach is k w not e =
     let found = stopped_home h new reach not in
-    subst (λ (x : Home). IsNode x.activity x.log ss pages buffer bytes txn used) (sym (e ∙ found.1)) (down_reached h.activity h.log ss pages buffer new bytes txn used found.0 is k w)
+    subst (λ (x : Home). IsNode x.activity x.log ss pages buffer bytes txn used) (sym (e ∙ ap (λ (x : Home). but_faults x h'.faults) found.1)) (down_reached h.activity h.log ss pages buffer new bytes txn used found.0 is k w)
 
 -- a replica as it was before it came up
 pub asleep_was : (r : Replica) → r.up ≡ false → asleep (woken_up r End) ≡ r
@@ -129,7 +129,7 @@ stopped_start r true e = ap (λ (x : Replica). fallen x x.kept) e
 stopped_start r false e = refl
 
 -- the home of a node that a stop takes down
-pub down_if : (h : Home) (new : List Record) (whole : Bool) → hardened_home h new (Stop whole) ≡ record { activity = fallen_activity h.activity; log = if whole then with_block h.log new else h.log }
+pub down_if : (h : Home) (new : List Record) (whole : Bool) → hardened_home h new (Stop whole) ≡ record { activity = fallen_activity h.activity; log = if whole then with_block h.log new else h.log; faults = h.faults }
 down_if h new true = refl
 down_if h new false = refl
 

@@ -1,4 +1,5 @@
 pub mod MarksSteps
+pub mod Views
 pub mod StripesSteps
 pub mod Folds
 pub mod Quiet

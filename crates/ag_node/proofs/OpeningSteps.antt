@@ -5,7 +5,7 @@ use Rattle.ag_model.specs.declared.config.Mode.{Mode}
 use Rattle.ag_model.specs.declared.config.Config.{Config}
 use Rattle.ag_model.specs.declared.record.Log.{Log}
 use Rattle.ag_model.specs.declared.record.Record.{Record}
-use Rattle.ag_model.specs.declared.record.Record.TheVariants.{Term}
+use Rattle.ag_model.specs.Stripes.{opening_log}
 use Rattle.ag_rules.specs.Replica.{Replica, Peer, Page, Stripe, Leading, clean_page, no_following, all_at}
 use Rattle.ag_rules.specs.Group.{opening_replica, synced_at_opening, opening_peers}
 use Rattle.ag_node.specs.Activity.{Activity}
@@ -43,19 +43,19 @@ opening_of leads state images pages leading = record {
   leads = leads;
   term = 1;
   state = state;
-  kept = kept_of 1 (record { records = Term 1 ∷ []; ends = 1 ∷ [] }) images;
+  kept = kept_of 1 opening_log images;
   pages = pages;
   stripes = all_at 1;
   following = no_following;
   leading = leading;
 }
 
-opened : (c : Config) (leads : Bool) → node_of (activity_at_opening leads) (record { records = Term 1 ∷ []; ends = 1 ∷ [] }) (all_at 1) (replicate c.pages false) (leading_of [] 0 (if leads then synced_at_opening c.modes else 0) (if leads then opening_peers c.modes else [])) ≡ opening_replica c leads
+opened : (c : Config) (leads : Bool) → node_of (activity_at_opening leads) opening_log (all_at 1) (replicate c.pages false) (leading_of [] 0 (if leads then synced_at_opening c.modes else 0) (if leads then opening_peers c.modes else [])) ≡ opening_replica c leads
 unfolding opening_replica
 opened c true = λ i. opening_of true 0 (count_same c.pages false i) (pages_clean c.pages i) (leading_of [] 0 (synced_at_opening c.modes) (opening_peers c.modes))
 opened c false = λ i. opening_of false 1 (count_same c.pages false i) (pages_clean c.pages i) (leading_of [] 0 0 [])
 
 pub node_opened : (c : Config) (leads : Bool) (activity : Activity) (log : Log) (ss : List Stripe) (ds : List Bool) (buffer : List Record) (synced : ℕ) (peers : List Peer)
-    → activity ≡ activity_at_opening leads → log ≡ record { records = Term 1 ∷ []; ends = 1 ∷ [] } → ss ≡ all_at 1 → ds ≡ replicate c.pages false → buffer ≡ [] → synced ≡ (if leads then synced_at_opening c.modes else 0) → peers ≡ (if leads then opening_peers c.modes else [])
+    → activity ≡ activity_at_opening leads → log ≡ opening_log → ss ≡ all_at 1 → ds ≡ replicate c.pages false → buffer ≡ [] → synced ≡ (if leads then synced_at_opening c.modes else 0) → peers ≡ (if leads then opening_peers c.modes else [])
     → node_of activity log ss ds (leading_of buffer 0 synced peers) ≡ opening_replica c leads
 node_opened c leads activity log ss ds buffer synced peers at l a d b s p = (λ i. node_of (at i) (l i) (a i) (d i) (leading_of (b i) 0 (s i) (p i))) ∙ opened c leads

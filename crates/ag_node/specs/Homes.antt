@@ -1,35 +1,47 @@
 -- What a node keeps on its disk, and where it stands.
-use Rattle.std.specs.Prelude.{◌+◌, List, [], ◌∷◌, Bool, true, false, not, Option, Some, None, if◌then◌else◌}
+use Rattle.std.specs.Prelude.{ℕ, ◌+◌, List, Bool, true, false, not, if◌then◌else◌}
 use Rattle.ag_model.specs.declared.record.Record.{Record}
-use Rattle.ag_model.specs.declared.record.Record.TheVariants.{Term}
 use Rattle.ag_model.specs.declared.record.Log.{Log}
 use Rattle.ag_model.specs.Blocks.{with_block}
+use Rattle.ag_model.specs.Stripes.{opening_log}
 use Rattle.ag_kept.specs.declared.reach.Reach.{Reach}
 use Rattle.ag_kept.specs.declared.reach.Reach.TheVariants.{End, Stop, Fault}
-use Rattle.ag_kept.specs.Kept.{Seen}
+use Rattle.ag_kept.specs.Kept.{Kept, Seen}
 use Rattle.ag_node.specs.Activity.{Activity}
 
--- where a node stands, and the log on its disk
+-- where a node stands, the log on its disk, and how often the disk has failed
 pub record Home : Type 0 where
   pub activity : Activity
   pub log : Log
+  pub faults : ℕ
 
--- the log of a group that opens
-abbrev pub opening_log : Log
-opening_log = record { records = Term 1 ∷ []; ends = 1 ∷ [] }
+-- after a fault of its store a node is down, with the log of a group that opens
+abbrev pub lost_kept : Kept
+lost_kept = record { log = opening_log; incarnation = 1; cut = 0; redo = 1; loaded = false }
 
--- a node that leads or follows, with what its store keeps; where a fault has left none, it is down with the log of a group that opens
-abbrev pub home_of : Bool → Bool → Option Seen → Home
-home_of leads follows None = record { activity = record { up = false; leads = leads; follows = follows; incarnation = 1 }; log = opening_log }
-home_of leads follows (Some s) = record { activity = record { up = s.kept.loaded; leads = leads; follows = follows; incarnation = s.kept.incarnation }; log = s.kept.log }
+-- what is known of what a store keeps
+abbrev pub known_kept : Seen → Kept
+known_kept s = if s.sound then s.kept else lost_kept
 
--- as a group opens
-abbrev pub opening_home : Bool → Home
-opening_home leads = record { activity = record { up = true; leads = leads; follows = not leads; incarnation = 1 }; log = opening_log }
+-- a node that leads or follows, with what its store keeps
+abbrev pub home_of : Bool → Bool → Seen → Home
+home_of leads follows s = record {
+  activity = record { up = (known_kept s).loaded; leads = leads; follows = follows; incarnation = (known_kept s).incarnation };
+  log = (known_kept s).log;
+  faults = s.faults;
+}
 
--- after a fault
-abbrev pub lost_home : Home
-lost_home = record { activity = record { up = false; leads = false; follows = false; incarnation = 1 }; log = opening_log }
+-- as a group opens, on a disk that has failed so often
+abbrev pub opening_home : Bool → ℕ → Home
+opening_home leads faults = record { activity = record { up = true; leads = leads; follows = not leads; incarnation = 1 }; log = opening_log; faults = faults }
+
+-- after a fault, on a disk that has failed so often
+abbrev pub lost_home : ℕ → Home
+lost_home faults = record { activity = record { up = false; leads = false; follows = false; incarnation = 1 }; log = opening_log; faults = faults }
+
+-- a node as this, on a disk that has failed so often
+abbrev pub but_faults : Home → ℕ → Home
+but_faults h faults = record h { faults = faults }
 
 -- a node that is down
 abbrev pub down_home : Home → Home

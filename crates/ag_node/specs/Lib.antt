@@ -1,6 +1,8 @@
 pub mod Activity
 pub mod Homes
 pub mod View
+pub mod Seen
+pub mod Faults
 pub mod Sites
 pub mod Room
 pub mod Folded

@@ -1,67 +1,83 @@
-//! What a node keeps on a disk of its own, and where the node stands.
-ghost use Rattle.std.specs.Prelude.{◌≡◌, ◌-◌, ◌+◌, ◌≤◌, ◌<◌, ◌^◌, true, false, length, take, IfOk, IfSome, OnOk, OnErr};
+//! What a node keeps on its disk, and where the node stands.
+ghost use Rattle.std.specs.Prelude.{◌≡◌, ◌-◌, ◌+◌, ◌≤◌, ◌<◌, ◌^◌, ℕ, true, false, length, replicate, take, IsTrue, IfOk, IfErr, IfSome, OnOk, OnErr, IsErrOf};
 ghost use Rattle.ag_model.specs.Blocks.{end_of_block, next_end, after_to};
 ghost use Rattle.ag_model.specs.Starts.{last_term};
 ghost use Rattle.ag_model.specs.Sizes.{block_sectors, records_size, free_sectors};
 ghost use Rattle.ag_record.specs.Spelling.{HaveSpelling, ArePayload};
+ghost use Rattle.ag_outside.specs.Counts.{HasRisen};
+ghost use Rattle.ag_outside.specs.Disks.{or_zeros};
+ghost use Rattle.ag_logstore.specs.Stored.{log_end};
 ghost use Rattle.ag_kept.specs.Reaching.{how_far};
-ghost use Rattle.ag_node.specs.Homes.{opening_home, hardened_home, started_home, lost_home, stands};
+ghost use Rattle.ag_node.specs.Homes.{opening_home, hardened_home, started_home, lost_home, but_faults, stands};
 
+use crate::fault::NodeFault;
 use ag_kept::{KeptStore, Reach};
 use ag_logstore::HardenedLog;
 use ag_model::event::Suffix;
 use ag_model::message::Block;
 use ag_model::record::{Record, RecordList};
 use ag_model::value::NoMemory;
-use ag_outside::mem_disk::MemDisk;
+use ag_outside::disk::Disk;
 use std::alloc::Global;
 use std::marker::Model;
 
-/// The log and the master of a node, on a disk of its own, and whether the node leads or follows. It is up while memory has
-/// the log. After a fault of the disk nothing is left.
+/// The log and the master of a node, on its disk, and whether the node leads or follows. It is up while memory has the log.
+/// After a fault nothing is known of the log.
 #[derive(Drop)]
-pub(crate) struct Home {
+pub(crate) struct Home<D: Disk> {
     leads: bool,
     /// Whether blocks of its primary are hardened here.
     follows: bool,
-    store: Option<KeptStore<MemDisk>>,
+    store: KeptStore<D>,
 }
 
-impl Model for Home {
-    ghost use Rattle.std.specs.Prelude.{IfSome, true, ◌≡◌};
+impl<D: Disk> Model for Home<D> {
     ghost use Rattle.ag_node.specs.Homes.{Home, home_of};
 
     ghost Value = { Home };
 
     ghost view = { λ h. home_of h.leads h.follows h.store };
-
-    ghost invariant = { λ h. IfSome h.store (λ s. s.sound ≡ true) };
 }
 
-impl Home {
-    /// What a node keeps as its group opens.
-    pub(crate) fn opening(alloc: Global, pages: u16, leads: bool) -> Result<Home, NoMemory>
-        ensures { IfOk result (λ home. home ≡ opening_home leads) }
+impl<D: Disk> Home<D> {
+    /// What a node keeps as its group opens, for so many pages and the replica of this number. The disk comes back where
+    /// that fails.
+    pub(crate) fn opening(
+        alloc: Global,
+        disk: D,
+        pages: u16,
+        replica: u8,
+        leads: bool,
+    ) -> Result<Home<D>, (NodeFault, D)>
+        requires room { log_end ≤ D.size disk }
+        requires keeps { IsTrue (D.keeps disk) }
+        requires zeros { (at : ℕ) → or_zeros (D.reads disk at) ≡ replicate 512 0 }
+        ensures home { IfOk result (λ home. home ≡ opening_home leads home.faults) }
+        ensures fault { IfErr result (λ x. x.0 ≡ NodeFault.DiskFault → HasRisen (D.faults disk) (D.faults x.1)) }
     {
-        let disk = MemDisk::new(alloc, Vec::new(alloc), false);
-        match KeptStore::create(alloc, disk, pages, u8::from(!leads)) {
+        match KeptStore::create(alloc, disk, pages, replica) {
             Ok(store) => Ok(Home {
                 leads,
                 follows: !leads,
-                store: Some(store),
+                store,
             }),
-            Err(_) => Err(NoMemory),
+            Err((fault, disk)) => Err((NodeFault::from(fault), disk)),
         }
+    }
+
+    /// The disk.
+    pub(crate) fn into_disk(self) -> D
+        ensures faults { D.faults result ≡ self.faults }
+    {
+        let Home { store, .. } = self;
+        store.into_disk()
     }
 
     /// Whether the node is up.
     pub(crate) fn is_up(&self) -> bool
         ensures { result ≡ self.now.activity.up }
     {
-        match &self.store {
-            Some(store) => store.is_loaded(),
-            None => false,
-        }
+        self.store.is_sound() && self.store.is_loaded()
     }
 
     /// Whether it is primary.
@@ -83,10 +99,7 @@ impl Home {
         requires up { self.now.activity.up ≡ true }
         ensures { result.now ≡ self.now.log }
     {
-        match &self.store {
-            Some(store) => store.log(),
-            None => unreachable!(),
-        }
+        self.store.log()
     }
 
     /// The last LSN.
@@ -165,13 +178,7 @@ impl Home {
     {
         self.leads = false;
         self.follows = false;
-        match self.store.take() {
-            None => {}
-            Some(mut store) => {
-                store.fall();
-                self.store = Some(store);
-            }
-        }
+        self.store.fall();
     }
 
     /// It leads from now on, or doesn't.
@@ -183,75 +190,67 @@ impl Home {
     }
 
     /// Hardens a block, and tells how far it came. Unless it comes to its end the node is down.
-    pub(crate) fn harden(&mut self, block: &Block, suffix: &Suffix) -> Result<Reach, NoMemory>
+    pub(crate) fn harden(&mut self, block: &Block, suffix: &Suffix) -> Result<Reach, NodeFault>
         requires up { self.old.activity.up ≡ true }
         requires first { block.now.first ≡ length self.old.log.records + 1 }
         requires payload { ArePayload block.now.records }
         requires room { block_sectors block.now.records ≤ free_sectors self.old.log }
         ensures reach { IfOk result (λ r. r ≡ how_far suffix.now (block_sectors block.now.records) 2) }
-        ensures home { IfOk result (λ r. self.new ≡ hardened_home self.old block.now.records r) }
-        ensures lost { OnErr result (self.new ≡ lost_home) }
+        ensures home { IfOk result (λ r. self.new ≡ but_faults (hardened_home self.old block.now.records r) self.new.faults) }
+        ensures lost { OnErr result (self.new ≡ lost_home self.new.faults) }
+        ensures fault { IsErrOf result NodeFault.DiskFault → HasRisen self.old.faults self.new.faults }
     {
-        match self.store.take() {
-            None => unreachable!(),
-            Some(mut store) => match store.harden(block, suffix) {
-                Ok(Reach::End) => {
-                    self.store = Some(store);
-                    Ok(Reach::End)
-                }
-                Ok(reach) => {
-                    self.leads = false;
-                    self.follows = false;
-                    self.store = Some(store);
-                    Ok(reach)
-                }
-                Err(_) => {
-                    self.leads = false;
-                    self.follows = false;
-                    Err(NoMemory)
-                }
-            },
+        match self.store.harden(block, suffix) {
+            Ok(Reach::End) => Ok(Reach::End),
+            Ok(reach) => {
+                self.leads = false;
+                self.follows = false;
+                Ok(reach)
+            }
+            Err(fault) => {
+                self.leads = false;
+                self.follows = false;
+                Err(NodeFault::from(fault))
+            }
         }
     }
 
-    /// The incarnation in the master of a node that is down.
-    pub(crate) fn incarnation(&mut self) -> Result<u64, NoMemory>
+    /// The incarnation in the master of a node that is down. A node that gave up before answers NoMemory.
+    pub(crate) fn incarnation(&mut self) -> Result<u64, NodeFault>
         requires down { self.old.activity.up ≡ false }
         requires roles { (self.old.activity.leads ≡ false) × (self.old.activity.follows ≡ false) }
         ensures is { IfOk result (λ n. n ≡ self.old.activity.incarnation) }
-        ensures home { OnOk result (self.new ≡ self.old) }
-        ensures lost { OnErr result (self.new ≡ lost_home) }
+        ensures home { OnOk result (self.new ≡ but_faults self.old self.new.faults) }
+        ensures later { OnOk result (self.old.faults ≤ self.new.faults) }
+        ensures lost { OnErr result (self.new ≡ lost_home self.new.faults) }
+        ensures fault { IsErrOf result NodeFault.DiskFault → HasRisen self.old.faults self.new.faults }
     {
-        match self.store.take() {
-            None => Err(NoMemory),
-            Some(mut store) => match store.incarnation() {
-                Ok(incarnation) => {
-                    self.store = Some(store);
-                    Ok(incarnation)
-                }
-                Err(_) => Err(NoMemory),
-            },
+        if !self.store.is_sound() {
+            return Err(NodeFault::NoMemory);
+        }
+        match self.store.incarnation() {
+            Ok(incarnation) => Ok(incarnation),
+            Err(fault) => Err(NodeFault::from(fault)),
         }
     }
 
-    /// Starts from the disk, as a node that neither leads nor follows, and tells how far it came.
-    pub(crate) fn start(&mut self, alloc: Global, suffix: &Suffix) -> Result<Reach, NoMemory>
+    /// Starts from the disk, as a node that neither leads nor follows, and tells how far it came. A node that gave up before
+    /// answers NoMemory.
+    pub(crate) fn start(&mut self, alloc: Global, suffix: &Suffix) -> Result<Reach, NodeFault>
         requires down { self.old.activity.up ≡ false }
         requires roles { (self.old.activity.leads ≡ false) × (self.old.activity.follows ≡ false) }
         requires small { self.old.activity.incarnation + 1 < 2 ^ 64 }
         ensures reach { IfOk result (λ r. r ≡ how_far suffix.now 1 3) }
-        ensures home { IfOk result (λ r. self.new ≡ started_home self.old r) }
-        ensures lost { OnErr result (self.new ≡ lost_home) }
+        ensures home { IfOk result (λ r. self.new ≡ but_faults (started_home self.old r) self.new.faults) }
+        ensures lost { OnErr result (self.new ≡ lost_home self.new.faults) }
+        ensures fault { IsErrOf result NodeFault.DiskFault → HasRisen self.old.faults self.new.faults }
     {
-        match self.store.take() {
-            None => Err(NoMemory),
-            Some(mut store) => match store.start(alloc, suffix) {
-                Ok(reach) => {
-                    self.store = Some(store);
-                    Ok(reach)
-                }
-                Err(_) => Err(NoMemory),
-            },
+        if !self.store.is_sound() {
+            return Err(NodeFault::NoMemory);
+        }
+        match self.store.start(alloc, suffix) {
+            Ok(reach) => Ok(reach),
+            Err(fault) => Err(NodeFault::from(fault)),
         }
     }
 }

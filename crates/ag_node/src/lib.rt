@@ -1,6 +1,7 @@
 //! One replica: what each event does there.
 #![tactic(auto)]
 
+pub mod fault;
 mod home;
 mod listed;
 mod marks;
@@ -11,4 +12,6 @@ mod room;
 mod rows;
 pub mod site;
 mod stripes;
+#[cfg(test)]
+mod tests;
 mod txns;

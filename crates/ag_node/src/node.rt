@@ -1,19 +1,23 @@
 //! One replica.
-ghost use Rattle.std.specs.Prelude.{length, List, ◌≡◌, ◌∷◌, [], IfOk, true, false, not, if◌then◌else◌, ◌==◌, ◌||◌};
+ghost use Rattle.std.specs.Prelude.{length, List, ◌≡◌, ◌≤◌, ◌∷◌, [], ℕ, replicate, IsTrue, IfOk, IfErr, true, false, not, if◌then◌else◌, ◌==◌, ◌||◌};
 ghost use Rattle.ag_model.specs.declared.record.Record.{Record};
 ghost use Rattle.ag_model.specs.Sizes.{records_size};
 ghost use Rattle.ag_rules.specs.Replica.{end, front, is_reverting};
 ghost use Rattle.ag_rules.specs.Group.{opening_replica};
 ghost use Rattle.ag_rules.specs.Promotion.{log_check};
 ghost use Rattle.ag_rules.specs.Script.{IsConfig};
+ghost use Rattle.ag_outside.specs.Counts.{HasRisen};
+ghost use Rattle.ag_outside.specs.Disks.{or_zeros};
+ghost use Rattle.ag_logstore.specs.Stored.{log_end};
 ghost use Rattle.ag_node.specs.Nodes.{IsRefusedBy};
 
 mod following;
 mod leading;
 mod starting;
 
+use crate::fault::NodeFault;
 use crate::home::Home;
-use crate::opening::{clean, known_at_opening, unused};
+use crate::opening::memory_at_opening;
 use crate::peer::PeerState;
 use crate::site::Site;
 use crate::stripes::Stripes;
@@ -23,16 +27,17 @@ use ag_model::config::Config;
 use ag_model::list::ListOf;
 use ag_model::record::RecordList;
 use ag_model::value::NoMemory;
+use ag_outside::disk::Disk;
 use std::alloc::Global;
 use std::marker::Model;
 
 /// The term of the opening, in which every node is.
 const TERM: u64 = 1;
 
-/// One replica, which a contract sees as the replica of the rules. It is in the first term.
+/// One replica over its disk, which a contract sees as the replica of the rules. It is in the first term.
 #[derive(Drop)]
-pub struct Node {
-    home: Home,
+pub struct Node<D: Disk> {
+    home: Home<D>,
     stripes: Stripes,
     /// One flag a data page.
     dirty: Vec<bool>,
@@ -46,23 +51,23 @@ pub struct Node {
     used: Vec<u32>,
 }
 
-impl Model for Node {
+impl<D: Disk> Model for Node<D> {
     ghost use Rattle.std.specs.Prelude.{length};
-    ghost use Rattle.ag_rules.specs.Replica.{Replica};
+    ghost use Rattle.ag_node.specs.Seen.{NodeView};
     ghost use Rattle.ag_node.specs.View.{node_of};
     ghost use Rattle.ag_node.specs.Nodes.{IsNode, leading_of};
 
-    ghost Value = { Replica };
+    ghost Value = { NodeView };
 
-    ghost view = { λ n. node_of n.home.activity n.home.log n.stripes n.dirty.items (leading_of n.buffer n.last_txn n.synced n.peers.items) };
+    ghost view = { λ n. record { replica = node_of n.home.activity n.home.log n.stripes n.dirty.items (leading_of n.buffer n.last_txn n.synced n.peers.items); faults = n.home.faults } };
 
     ghost invariant = { λ n. IsNode n.home.activity n.home.log n.stripes (length n.dirty.items) n.buffer n.buffered n.last_txn n.used.items };
 }
 
-impl Node {
+impl<D: Disk> Node<D> {
     /// The term that it follows.
     pub fn term(&self) -> u64
-        ensures { result ≡ self.now.term }
+        ensures { result ≡ self.now.replica.term }
     {
         let _ = &self.home;
         TERM
@@ -70,48 +75,48 @@ impl Node {
 
     /// Whether it is up.
     pub fn is_up(&self) -> bool
-        ensures { result ≡ self.now.up }
+        ensures { result ≡ self.now.replica.up }
     {
         self.home.is_up()
     }
 
     /// Whether it is primary.
     fn leads(&self) -> bool
-        ensures is { result ≡ self.now.leads }
-        ensures term { self.now.term ≡ 1 }
-        ensures steady { is_reverting self.now.state ≡ false }
+        ensures is { result ≡ self.now.replica.leads }
+        ensures term { self.now.replica.term ≡ 1 }
+        ensures steady { is_reverting self.now.replica.state ≡ false }
     {
         self.home.leads()
     }
 
     /// Whether blocks of its primary are hardened here.
     fn follows(&self) -> bool
-        ensures is { result ≡ (self.now.state == 1) }
-        ensures other { ((self.now.state == 0) || (self.now.state == 3)) ≡ not result }
-        ensures up { result ≡ true → self.now.up ≡ true }
+        ensures is { result ≡ (self.now.replica.state == 1) }
+        ensures other { ((self.now.replica.state == 0) || (self.now.replica.state == 3)) ≡ not result }
+        ensures up { result ≡ true → self.now.replica.up ≡ true }
     {
         self.home.follows()
     }
 
     /// Where its hardened log ends, an LSN.
     fn end(&self) -> u64
-        requires up { self.now.up ≡ true }
-        ensures { result ≡ end self.now }
+        requires up { self.now.replica.up ≡ true }
+        ensures { result ≡ end self.now.replica }
     {
         self.home.end()
     }
 
     /// The front that reads see, an LSN.
     fn front(&self) -> u64
-        ensures { result ≡ front self.now }
+        ensures { result ≡ front self.now.replica }
     {
         self.stripes.front()
     }
 
     /// Why the log has no room for a block of these bytes, if it has none.
     fn log_refusal(&self, bytes: u64) -> Result<Option<Refusal>, NoMemory>
-        requires up { self.now.up ≡ true }
-        ensures { IfOk result (λ why. (new : List Record) → records_size new ≡ bytes → IsRefusedBy why (log_check self.now (new ∷ []))) }
+        requires up { self.now.replica.up ≡ true }
+        ensures { IfOk result (λ why. (new : List Record) → records_size new ≡ bytes → IsRefusedBy why (log_check self.now.replica (new ∷ []))) }
     {
         let need = block_sectors_of(bytes);
         let free = self.home.free_sectors();
@@ -122,24 +127,49 @@ impl Node {
         }
     }
 
-    /// A replica at the opening: the primary, or one that follows it.
-    pub fn opening(alloc: Global, config: &Config, leads: bool) -> Result<Node, NoMemory>
-        requires { IsConfig config.now }
-        ensures node { IfOk result (λ node. node ≡ opening_replica config.now leads) }
-        ensures pages { IfOk result (λ node. length node.pages ≡ config.now.pages) }
+    /// A replica of this number at the opening, on a disk of zeros: the primary, or one that follows it. The disk comes back
+    /// where that fails.
+    pub fn opening(
+        alloc: Global,
+        config: &Config,
+        number: u8,
+        leads: bool,
+        disk: D,
+    ) -> Result<Node<D>, (NodeFault, D)>
+        requires config { IsConfig config.now }
+        requires room { log_end ≤ D.size disk }
+        requires keeps { IsTrue (D.keeps disk) }
+        requires zeros { (at : ℕ) → or_zeros (D.reads disk at) ≡ replicate 512 0 }
+        ensures node { IfOk result (λ node. node.replica ≡ opening_replica config.now leads) }
+        ensures pages { IfOk result (λ node. length node.replica.pages ≡ config.now.pages) }
+        ensures fault { IfErr result (λ x. x.0 ≡ NodeFault.DiskFault → HasRisen (D.faults disk) (D.faults x.1)) }
     {
-        let (synced, peers) = known_at_opening(alloc, config.modes.as_slice(), leads)?;
-        Ok(Node {
-            home: Home::opening(alloc, config.pages, leads)?,
-            stripes: Stripes::all_at(1),
-            dirty: clean(alloc, config.pages)?,
-            buffer: ListOf::new(alloc),
-            buffered: 0,
-            last_txn: 0,
-            synced,
-            peers,
-            used: unused(alloc, config.pages)?,
-        })
+        let memory = match memory_at_opening(alloc, config, leads) {
+            Ok(memory) => memory,
+            Err(NoMemory) => return Err((NodeFault::NoMemory, disk)),
+        };
+        match Home::opening(alloc, disk, config.pages, number, leads) {
+            Ok(home) => Ok(Node {
+                home,
+                stripes: Stripes::all_at(1),
+                dirty: memory.dirty,
+                buffer: ListOf::new(alloc),
+                buffered: 0,
+                last_txn: 0,
+                synced: memory.synced,
+                peers: memory.peers,
+                used: memory.used,
+            }),
+            Err(failed) => Err(failed),
+        }
+    }
+
+    /// The disk below, as it is.
+    pub fn into_disk(self) -> D
+        ensures faults { D.faults result ≡ self.faults }
+    {
+        let Node { home, .. } = self;
+        home.into_disk()
     }
 }
 

@@ -5,12 +5,41 @@ ghost use Rattle.ag_rules.specs.Group.{is_waited_for, waited_for, synced_at_open
 ghost use Rattle.ag_node.specs.Nodes.{at_opening};
 
 use crate::peer::PeerState;
-use ag_model::config::Mode;
+use ag_model::config::{Config, Mode};
 use ag_model::value::NoMemory;
 use std::alloc::{AllocError, Global};
 
+/// What a node has in memory at the opening.
+#[derive(Drop)]
+pub(crate) struct OpeningMemory {
+    pub(crate) dirty: Vec<bool>,
+    pub(crate) synced: u16,
+    pub(crate) peers: Vec<PeerState>,
+    pub(crate) used: Vec<u32>,
+}
+
+/// What a replica that leads, or doesn't, has in memory at the opening.
+pub(crate) fn memory_at_opening(
+    alloc: Global,
+    config: &Config,
+    leads: bool,
+) -> Result<OpeningMemory, NoMemory>
+    ensures dirty { IfOk result (λ memory. memory.dirty.items ≡ replicate config.now.pages false) }
+    ensures synced { IfOk result (λ memory. memory.synced ≡ (if leads then synced_at_opening config.now.modes else 0)) }
+    ensures peers { IfOk result (λ memory. memory.peers.items ≡ (if leads then opening_peers config.now.modes else [])) }
+    ensures used { IfOk result (λ memory. memory.used.items ≡ replicate config.now.pages 0) }
+{
+    let (synced, peers) = known_at_opening(alloc, config.modes.as_slice(), leads)?;
+    Ok(OpeningMemory {
+        dirty: clean(alloc, config.pages)?,
+        synced,
+        peers,
+        used: unused(alloc, config.pages)?,
+    })
+}
+
 /// A flag for each page: none is dirty.
-pub(crate) fn clean(alloc: Global, pages: u16) -> Result<Vec<bool>, AllocError>
+fn clean(alloc: Global, pages: u16) -> Result<Vec<bool>, AllocError>
     ensures { IfOk result (λ flags. flags.items ≡ replicate pages false) }
 {
     let mut flags = Vec::new(alloc);
@@ -32,7 +61,7 @@ pub(crate) fn unused(alloc: Global, pages: u16) -> Result<Vec<u32>, AllocError>
 }
 
 /// The synchronised set and what is known of each replica, where a replica leads, and else nothing.
-pub(crate) fn known_at_opening(
+fn known_at_opening(
     alloc: Global,
     modes: &[Mode],
     leads: bool,

@@ -1,5 +1,5 @@
 //! The events of one node.
-ghost use Rattle.std.specs.Prelude.{◌≡◌, ◌<◌, ◌≤◌, IfOk, OnOk, length, []};
+ghost use Rattle.std.specs.Prelude.{◌≡◌, ◌<◌, ◌≤◌, IfOk, IfErr, OnOk, length, []};
 ghost use Rattle.std.specs.List.{AllByRecursion};
 ghost use Rattle.ag_built.specs.Built.{IsPair};
 ghost use Rattle.ag_rules.specs.Group.{replica};
@@ -16,26 +16,29 @@ ghost use Rattle.ag_rules.specs.StartEvent.{start_part};
 ghost use Rattle.ag_rules.specs.LookEvent.{status_part};
 ghost use Rattle.ag_rules.specs.Next.{at_session, token, token_after};
 ghost use Rattle.ag_rules.specs.Checks.{token_or_none};
+ghost use Rattle.ag_group.specs.Faults.{IsCounted, IsLawful};
 
 use super::Group;
+use crate::fault::StepFault;
 use ag_model::answer::Answer;
 use ag_model::config::Token;
 use ag_model::event::{PairList, Suffix};
 use ag_model::value::NoMemory;
+use ag_outside::disk::Disk;
 use std::alloc::Global;
 
-impl Group {
+impl<D: Disk> Group<D> {
     /// `set`: a whole transaction of these puts.
     #[tactic(auto, unfolding(ag_rules::specs::SetEvent::set_part))]
     pub(super) fn set(&mut self, alloc: Global, n: u8, pairs: &PairList) -> Result<Answer, NoMemory>
-        requires node { n < length self.old.config.modes }
+        requires node { n < length self.old.group.config.modes }
         requires some { 1 ≤ length pairs.now }
         requires few { length pairs.now ≤ 8 }
         requires values { AllByRecursion IsPair pairs.now }
-        ensures answer { IfOk result (λ a. a ≡ (at_node self.old n (set_part (here self.old n) (replica self.old n) pairs.now)).answer) }
-        ensures after { OnOk result (self.new ≡ (at_node self.old n (set_part (here self.old n) (replica self.old n) pairs.now)).after) }
-        ensures writes { OnOk result ((set_part (here self.old n) (replica self.old n) pairs.now).writes ≡ []) }
-        ensures config { OnOk result (self.new.config ≡ self.old.config) }
+        ensures answer { IfOk result (λ a. a ≡ (at_node self.old.group n (set_part (here self.old.group n) (replica self.old.group n) pairs.now)).answer) }
+        ensures after { OnOk result (self.new.group ≡ (at_node self.old.group n (set_part (here self.old.group n) (replica self.old.group n) pairs.now)).after) }
+        ensures writes { OnOk result ((set_part (here self.old.group n) (replica self.old.group n) pairs.now).writes ≡ []) }
+        ensures config { OnOk result (self.new.group.config ≡ self.old.group.config) }
     {
         let site = self.site(n);
         let node = &mut self.nodes[usize::from(n)];
@@ -49,27 +52,32 @@ impl Group {
         alloc: Global,
         n: u8,
         suffix: &Suffix,
-    ) -> Result<Answer, NoMemory>
-        requires node { n < length self.old.config.modes }
-        ensures answer { IfOk result (λ a. a ≡ (cut suffix.now (at_node self.old n (harden_part (here self.old n) (replica self.old n)))).answer) }
-        ensures after { OnOk result (self.new ≡ (cut suffix.now (at_node self.old n (harden_part (here self.old n) (replica self.old n)))).after) }
-        ensures config { OnOk result (self.new.config ≡ self.old.config) }
+    ) -> Result<Answer, StepFault>
+        requires node { n < length self.old.group.config.modes }
+        ensures answer { IfOk result (λ a. a ≡ (cut suffix.now (at_node self.old.group n (harden_part (here self.old.group n) (replica self.old.group n)))).answer) }
+        ensures after { OnOk result (self.new.group ≡ (cut suffix.now (at_node self.old.group n (harden_part (here self.old.group n) (replica self.old.group n)))).after) }
+        ensures config { OnOk result (self.new.group.config ≡ self.old.group.config) }
+        ensures fault { IfErr result (λ e. IsCounted e self.old.faults self.new.faults) }
+        ensures lawful { IfErr result IsLawful }
     {
         let site = self.site(n);
         let node = &mut self.nodes[usize::from(n)];
-        let answer = node.harden(alloc, &site, suffix)?;
+        let answer = match node.harden(alloc, &site, suffix) {
+            Ok(answer) => answer,
+            Err(e) => return Err(StepFault::of_node(n, e)),
+        };
         Ok(answer)
     }
 
     /// `apply`: a stripe goes through the next block of the log.
     #[tactic(auto, unfolding(ag_rules::specs::ApplyEvent::apply_part))]
     pub(super) fn apply(&mut self, n: u8, stripe: u8) -> Answer
-        requires node { n < length self.old.config.modes }
+        requires node { n < length self.old.group.config.modes }
         requires stripe { stripe < 16 }
-        ensures answer { result ≡ (at_node self.old n (apply_part (here self.old n) (replica self.old n) stripe)).answer }
-        ensures after { self.new ≡ (at_node self.old n (apply_part (here self.old n) (replica self.old n) stripe)).after }
-        ensures writes { (apply_part (here self.old n) (replica self.old n) stripe).writes ≡ [] }
-        ensures config { self.new.config ≡ self.old.config }
+        ensures answer { result ≡ (at_node self.old.group n (apply_part (here self.old.group n) (replica self.old.group n) stripe)).answer }
+        ensures after { self.new.group ≡ (at_node self.old.group n (apply_part (here self.old.group n) (replica self.old.group n) stripe)).after }
+        ensures writes { (apply_part (here self.old.group n) (replica self.old.group n) stripe).writes ≡ [] }
+        ensures config { self.new.group.config ≡ self.old.group.config }
     {
         let site = self.site(n);
         let node = &mut self.nodes[usize::from(n)];
@@ -79,12 +87,12 @@ impl Group {
     /// `raise`: a stripe publishes what it has redone.
     #[tactic(auto, unfolding(ag_rules::specs::RaiseEvent::raise_part))]
     pub(super) fn raise(&mut self, n: u8, stripe: u8) -> Answer
-        requires node { n < length self.old.config.modes }
+        requires node { n < length self.old.group.config.modes }
         requires stripe { stripe < 16 }
-        ensures answer { result ≡ (at_node self.old n (raise_part (here self.old n) (replica self.old n) stripe)).answer }
-        ensures after { self.new ≡ (at_node self.old n (raise_part (here self.old n) (replica self.old n) stripe)).after }
-        ensures writes { (raise_part (here self.old n) (replica self.old n) stripe).writes ≡ [] }
-        ensures config { self.new.config ≡ self.old.config }
+        ensures answer { result ≡ (at_node self.old.group n (raise_part (here self.old.group n) (replica self.old.group n) stripe)).answer }
+        ensures after { self.new.group ≡ (at_node self.old.group n (raise_part (here self.old.group n) (replica self.old.group n) stripe)).after }
+        ensures writes { (raise_part (here self.old.group n) (replica self.old.group n) stripe).writes ≡ [] }
+        ensures config { self.new.group.config ≡ self.old.group.config }
     {
         let site = self.site(n);
         let node = &mut self.nodes[usize::from(n)];
@@ -94,11 +102,11 @@ impl Group {
     /// `redo`: every stripe is applied to the end and raised.
     #[tactic(auto, unfolding(ag_rules::specs::RedoEvent::redo_part))]
     pub(super) fn redo(&mut self, n: u8) -> Answer
-        requires node { n < length self.old.config.modes }
-        ensures answer { result ≡ (at_node self.old n (redo_part (here self.old n) (replica self.old n))).answer }
-        ensures after { self.new ≡ (at_node self.old n (redo_part (here self.old n) (replica self.old n))).after }
-        ensures writes { (redo_part (here self.old n) (replica self.old n)).writes ≡ [] }
-        ensures config { self.new.config ≡ self.old.config }
+        requires node { n < length self.old.group.config.modes }
+        ensures answer { result ≡ (at_node self.old.group n (redo_part (here self.old.group n) (replica self.old.group n))).answer }
+        ensures after { self.new.group ≡ (at_node self.old.group n (redo_part (here self.old.group n) (replica self.old.group n))).after }
+        ensures writes { (redo_part (here self.old.group n) (replica self.old.group n)).writes ≡ [] }
+        ensures config { self.new.group.config ≡ self.old.group.config }
     {
         let site = self.site(n);
         let node = &mut self.nodes[usize::from(n)];
@@ -108,11 +116,11 @@ impl Group {
     /// `crash`: all is lost but what the node keeps.
     #[tactic(auto, unfolding(ag_rules::specs::CrashEvent::crash_part))]
     pub(super) fn crash(&mut self, alloc: Global, n: u8) -> Answer
-        requires node { n < length self.old.config.modes }
-        ensures answer { result ≡ (at_node self.old n (crash_part (here self.old n) (replica self.old n))).answer }
-        ensures after { self.new ≡ (at_node self.old n (crash_part (here self.old n) (replica self.old n))).after }
-        ensures writes { (crash_part (here self.old n) (replica self.old n)).writes ≡ [] }
-        ensures config { self.new.config ≡ self.old.config }
+        requires node { n < length self.old.group.config.modes }
+        ensures answer { result ≡ (at_node self.old.group n (crash_part (here self.old.group n) (replica self.old.group n))).answer }
+        ensures after { self.new.group ≡ (at_node self.old.group n (crash_part (here self.old.group n) (replica self.old.group n))).after }
+        ensures writes { (crash_part (here self.old.group n) (replica self.old.group n)).writes ≡ [] }
+        ensures config { self.new.group.config ≡ self.old.group.config }
     {
         let site = self.site(n);
         let node = &mut self.nodes[usize::from(n)];
@@ -125,25 +133,30 @@ impl Group {
         alloc: Global,
         n: u8,
         suffix: &Suffix,
-    ) -> Result<Answer, NoMemory>
-        requires node { n < length self.old.config.modes }
-        ensures answer { IfOk result (λ a. a ≡ (cut suffix.now (at_node self.old n (start_part (here self.old n) (replica self.old n)))).answer) }
-        ensures after { OnOk result (self.new ≡ (cut suffix.now (at_node self.old n (start_part (here self.old n) (replica self.old n)))).after) }
-        ensures config { OnOk result (self.new.config ≡ self.old.config) }
+    ) -> Result<Answer, StepFault>
+        requires node { n < length self.old.group.config.modes }
+        ensures answer { IfOk result (λ a. a ≡ (cut suffix.now (at_node self.old.group n (start_part (here self.old.group n) (replica self.old.group n)))).answer) }
+        ensures after { OnOk result (self.new.group ≡ (cut suffix.now (at_node self.old.group n (start_part (here self.old.group n) (replica self.old.group n)))).after) }
+        ensures config { OnOk result (self.new.group.config ≡ self.old.group.config) }
+        ensures fault { IfErr result (λ e. IsCounted e self.old.faults self.new.faults) }
+        ensures lawful { IfErr result IsLawful }
     {
         let site = self.site(n);
         let node = &mut self.nodes[usize::from(n)];
-        let answer = node.start(alloc, &site, self.config.modes.as_slice(), suffix)?;
+        let answer = match node.start(alloc, &site, self.config.modes.as_slice(), suffix) {
+            Ok(answer) => answer,
+            Err(e) => return Err(StepFault::of_node(n, e)),
+        };
         Ok(answer)
     }
 
     /// `status`: what a node says of itself.
     #[tactic(auto, unfolding(ag_rules::specs::LookEvent::status_part))]
     pub(super) fn status(&self, n: u8) -> Answer
-        requires node { n < length self.now.config.modes }
-        ensures answer { result ≡ (at_node self.now n (status_part (here self.now n) (replica self.now n))).answer }
-        ensures left { (at_node self.now n (status_part (here self.now n) (replica self.now n))).after ≡ self.now }
-        ensures writes { (status_part (here self.now n) (replica self.now n)).writes ≡ [] }
+        requires node { n < length self.now.group.config.modes }
+        ensures answer { result ≡ (at_node self.now.group n (status_part (here self.now.group n) (replica self.now.group n))).answer }
+        ensures left { (at_node self.now.group n (status_part (here self.now.group n) (replica self.now.group n))).after ≡ self.now.group }
+        ensures writes { (status_part (here self.now.group n) (replica self.now.group n)).writes ≡ [] }
     {
         let site = self.site(n);
         let node = &self.nodes[usize::from(n)];
@@ -152,12 +165,12 @@ impl Group {
 
     /// `read`: the row at the front of a replica, for a session.
     pub(super) fn read(&mut self, alloc: Global, n: u8, s: u8, key: u32) -> Result<Answer, NoMemory>
-        requires node { n < length self.old.config.modes }
+        requires node { n < length self.old.group.config.modes }
         requires session { s < 64 }
-        ensures answer { IfOk result (λ a. a ≡ (at_session self.old n s (read_part (here self.old n) (replica self.old n) (token self.old s) key)).answer) }
-        ensures after { OnOk result (self.new ≡ (at_session self.old n s (read_part (here self.old n) (replica self.old n) (token self.old s) key)).after) }
-        ensures writes { OnOk result ((read_part (here self.old n) (replica self.old n) (token self.old s) key).writes ≡ []) }
-        ensures config { OnOk result (self.new.config ≡ self.old.config) }
+        ensures answer { IfOk result (λ a. a ≡ (at_session self.old.group n s (read_part (here self.old.group n) (replica self.old.group n) (token self.old.group s) key)).answer) }
+        ensures after { OnOk result (self.new.group ≡ (at_session self.old.group n s (read_part (here self.old.group n) (replica self.old.group n) (token self.old.group s) key)).after) }
+        ensures writes { OnOk result ((read_part (here self.old.group n) (replica self.old.group n) (token self.old.group s) key).writes ≡ []) }
+        ensures config { OnOk result (self.new.group.config ≡ self.old.group.config) }
     {
         let site = self.site(n);
         let old = self.tokens[usize::from(s)];

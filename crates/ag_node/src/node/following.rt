@@ -1,5 +1,5 @@
 //! What the events of a secondary do.
-ghost use Rattle.std.specs.Prelude.{◌≡◌, ◌+◌, ◌≤◌, ◌<◌, ◌==◌, ◌∷◌, [], IfOk, OnOk, IfSome, IfNone, MatchOption, length, false, true};
+ghost use Rattle.std.specs.Prelude.{◌≡◌, ◌+◌, ◌≤◌, ◌<◌, ◌==◌, ◌∷◌, [], IfOk, OnOk, IsErrOf, IfSome, IfNone, MatchOption, length, false, true};
 ghost use Rattle.ag_model.specs.Sizes.{block_sectors, free_sectors};
 ghost use Rattle.ag_rules.specs.Replica.{end, front, stripe};
 ghost use Rattle.ag_rules.specs.Promotion.{log_check};
@@ -12,6 +12,7 @@ ghost use Rattle.ag_rules.specs.Messages.{ack_message};
 ghost use Rattle.ag_rules.specs.BlockMessage.{block_part};
 ghost use Rattle.ag_rules.specs.DeliverEvent.{leaves};
 ghost use Rattle.ag_rules.specs.Plan.{sending, Block_write};
+ghost use Rattle.ag_outside.specs.Counts.{HasRisen};
 ghost use Rattle.ag_kept.specs.Reaching.{how_far};
 ghost use Rattle.ag_node.specs.Reaching.{part_reached};
 ghost use Rattle.ag_built.specs.Built.{IsBuiltMessage};
@@ -25,6 +26,7 @@ ghost use Rattle.ag_node.specs.Hardening.{hardens_block};
 ghost use Rattle.ag_node.specs.Nodes.{IsRefusedBy};
 
 use super::{Node, TERM, device_failed, down, stopped};
+use crate::fault::NodeFault;
 use crate::marks::{mark, mark_to_end};
 use crate::rows::{horizon_at, row_at};
 use crate::site::Site;
@@ -37,17 +39,19 @@ use ag_model::event::Suffix;
 use ag_model::message::{Block, Body, Message};
 use ag_model::record::Record;
 use ag_model::value::{NoMemory, Row};
+use ag_outside::disk::Disk;
 use std::alloc::Global;
 
-impl Node {
+impl<D: Disk> Node<D> {
     /// `redo` at this replica: every stripe is applied to the end and raised.
     #[tactic(auto, unfolding(ag_rules::specs::RedoEvent::redo_part))]
     pub fn redo(&mut self, site: &Site) -> Answer
-        requires pages { site.now.pages ≡ length self.old.pages }
-        ensures answer { result ≡ (redo_part (here_at site.now) self.old).answer }
-        ensures after { self.new ≡ (redo_part (here_at site.now) self.old).after }
-        ensures writes { (redo_part (here_at site.now) self.old).writes ≡ [] }
-        ensures pages { length self.new.pages ≡ length self.old.pages }
+        requires pages { site.now.pages ≡ length self.old.replica.pages }
+        ensures answer { result ≡ (redo_part (here_at site.now) self.old.replica).answer }
+        ensures after { self.new.replica ≡ (redo_part (here_at site.now) self.old.replica).after }
+        ensures writes { (redo_part (here_at site.now) self.old.replica).writes ≡ [] }
+        ensures pages { length self.new.replica.pages ≡ length self.old.replica.pages }
+        ensures faults { self.new.faults ≡ self.old.faults }
     {
         if !self.is_up() {
             return down(site);
@@ -61,13 +65,14 @@ impl Node {
 
     /// Applies the log to the pages, to its end.
     fn redo_all(&mut self, pages: u16) -> u64
-        requires pages { pages ≡ length self.old.pages }
-        requires up { self.old.up ≡ true }
-        requires follows { self.old.leads ≡ false }
-        ensures lsn { result ≡ end self.old }
-        ensures after { self.new ≡ (redoes_touching pages self.old (touched_up_to pages (end self.old) self.old)).after }
-        ensures writes { (redoes_touching pages self.old (touched_up_to pages (end self.old) self.old)).writes ≡ [] }
-        ensures pages { length self.new.pages ≡ length self.old.pages }
+        requires pages { pages ≡ length self.old.replica.pages }
+        requires up { self.old.replica.up ≡ true }
+        requires follows { self.old.replica.leads ≡ false }
+        ensures lsn { result ≡ end self.old.replica }
+        ensures after { self.new.replica ≡ (redoes_touching pages self.old.replica (touched_up_to pages (end self.old.replica) self.old.replica)).after }
+        ensures writes { (redoes_touching pages self.old.replica (touched_up_to pages (end self.old.replica) self.old.replica)).writes ≡ [] }
+        ensures pages { length self.new.replica.pages ≡ length self.old.replica.pages }
+        ensures faults { self.new.faults ≡ self.old.faults }
     {
         let end = self.home.end();
         let records = self.home.records();
@@ -79,12 +84,13 @@ impl Node {
     /// `apply` at this replica: a stripe goes through the next block of the log.
     #[tactic(auto, unfolding(ag_rules::specs::ApplyEvent::apply_part))]
     pub fn apply(&mut self, site: &Site, stripe: u8) -> Answer
-        requires pages { site.now.pages ≡ length self.old.pages }
+        requires pages { site.now.pages ≡ length self.old.replica.pages }
         requires stripe { stripe < 16 }
-        ensures answer { result ≡ (apply_part (here_at site.now) self.old stripe).answer }
-        ensures after { self.new ≡ (apply_part (here_at site.now) self.old stripe).after }
-        ensures writes { (apply_part (here_at site.now) self.old stripe).writes ≡ [] }
-        ensures pages { length self.new.pages ≡ length self.old.pages }
+        ensures answer { result ≡ (apply_part (here_at site.now) self.old.replica stripe).answer }
+        ensures after { self.new.replica ≡ (apply_part (here_at site.now) self.old.replica stripe).after }
+        ensures writes { (apply_part (here_at site.now) self.old.replica stripe).writes ≡ [] }
+        ensures pages { length self.new.replica.pages ≡ length self.old.replica.pages }
+        ensures faults { self.new.faults ≡ self.old.faults }
     {
         if !self.is_up() {
             return down(site);
@@ -102,21 +108,22 @@ impl Node {
     /// The LSN to which a stripe has redone.
     fn applied(&self, x: u8) -> u64
         requires { x < 16 }
-        ensures { result ≡ (stripe self.now x).applied }
+        ensures { result ≡ (stripe self.now.replica x).applied }
     {
         self.stripes.applied(x)
     }
 
     /// Applies the next block of the log to a stripe.
     fn apply_next(&mut self, pages: u16, x: u8) -> u64
-        requires pages { pages ≡ length self.old.pages }
-        requires up { self.old.up ≡ true }
+        requires pages { pages ≡ length self.old.replica.pages }
+        requires up { self.old.replica.up ≡ true }
         requires stripe { x < 16 }
-        requires follows { self.old.leads ≡ false }
-        ensures lsn { result ≡ next_of_stripe self.old x }
-        ensures after { self.new ≡ (applies_touching pages self.old x (next_of_stripe self.old x) (touched_in_stripe pages self.old x (next_of_stripe self.old x))).after }
-        ensures writes { (applies_touching pages self.old x (next_of_stripe self.old x) (touched_in_stripe pages self.old x (next_of_stripe self.old x))).writes ≡ [] }
-        ensures pages { length self.new.pages ≡ length self.old.pages }
+        requires follows { self.old.replica.leads ≡ false }
+        ensures lsn { result ≡ next_of_stripe self.old.replica x }
+        ensures after { self.new.replica ≡ (applies_touching pages self.old.replica x (next_of_stripe self.old.replica x) (touched_in_stripe pages self.old.replica x (next_of_stripe self.old.replica x))).after }
+        ensures writes { (applies_touching pages self.old.replica x (next_of_stripe self.old.replica x) (touched_in_stripe pages self.old.replica x (next_of_stripe self.old.replica x))).writes ≡ [] }
+        ensures pages { length self.new.replica.pages ≡ length self.old.replica.pages }
+        ensures faults { self.new.faults ≡ self.old.faults }
     {
         let applied = self.stripes.applied(x);
         let next = self.home.end_after(applied);
@@ -130,10 +137,11 @@ impl Node {
     #[tactic(auto, unfolding(ag_rules::specs::RaiseEvent::raise_part))]
     pub fn raise(&mut self, site: &Site, stripe: u8) -> Answer
         requires stripe { stripe < 16 }
-        ensures answer { result ≡ (raise_part (here_at site.now) self.old stripe).answer }
-        ensures after { self.new ≡ (raise_part (here_at site.now) self.old stripe).after }
-        ensures writes { (raise_part (here_at site.now) self.old stripe).writes ≡ [] }
-        ensures pages { length self.new.pages ≡ length self.old.pages }
+        ensures answer { result ≡ (raise_part (here_at site.now) self.old.replica stripe).answer }
+        ensures after { self.new.replica ≡ (raise_part (here_at site.now) self.old.replica stripe).after }
+        ensures writes { (raise_part (here_at site.now) self.old.replica stripe).writes ≡ [] }
+        ensures pages { length self.new.replica.pages ≡ length self.old.replica.pages }
+        ensures faults { self.new.faults ≡ self.old.faults }
     {
         if !self.is_up() {
             return down(site);
@@ -151,7 +159,7 @@ impl Node {
     /// Whether a stripe has published all that it has redone.
     fn is_raised(&self, x: u8) -> bool
         requires { x < 16 }
-        ensures { result ≡ ((stripe self.now x).published == (stripe self.now x).applied) }
+        ensures { result ≡ ((stripe self.now.replica x).published == (stripe self.now.replica x).applied) }
     {
         self.stripes.published(x) == self.stripes.applied(x)
     }
@@ -159,9 +167,10 @@ impl Node {
     /// Publishes what a stripe has redone.
     fn raise_stripe(&mut self, x: u8) -> u64
         requires stripe { x < 16 }
-        ensures lsn { result ≡ (stripe self.old x).applied }
-        ensures after { self.new ≡ raised self.old x }
-        ensures pages { length self.new.pages ≡ length self.old.pages }
+        ensures lsn { result ≡ (stripe self.old.replica x).applied }
+        ensures after { self.new.replica ≡ raised self.old.replica x }
+        ensures pages { length self.new.replica.pages ≡ length self.old.replica.pages }
+        ensures faults { self.new.faults ≡ self.old.faults }
     {
         self.stripes.raise(x);
         self.stripes.applied(x)
@@ -176,10 +185,10 @@ impl Node {
         token: &Token,
         key: u32,
     ) -> Result<Answer, NoMemory>
-        requires pages { site.now.pages ≡ length self.now.pages }
-        ensures answer { IfOk result (λ a. a ≡ (read_part (here_at site.now) self.now token.now key).answer) }
-        ensures left { OnOk result ((read_part (here_at site.now) self.now token.now key).after ≡ self.now) }
-        ensures writes { OnOk result ((read_part (here_at site.now) self.now token.now key).writes ≡ []) }
+        requires pages { site.now.pages ≡ length self.now.replica.pages }
+        ensures answer { IfOk result (λ a. a ≡ (read_part (here_at site.now) self.now.replica token.now key).answer) }
+        ensures left { OnOk result ((read_part (here_at site.now) self.now.replica token.now key).after ≡ self.now.replica) }
+        ensures writes { OnOk result ((read_part (here_at site.now) self.now.replica token.now key).writes ≡ []) }
     {
         if !self.is_up() {
             return Ok(down(site));
@@ -206,11 +215,11 @@ impl Node {
 
     /// The row of a key at the front, where its page allows it.
     fn row_at_front(&self, alloc: Global, site: &Site, key: u32) -> Result<Answer, NoMemory>
-        requires up { self.now.up ≡ true }
-        requires pages { site.now.pages ≡ length self.now.pages }
-        ensures answer { IfOk result (λ a. a ≡ (reads_at (here_at site.now) self.now (front self.now) key).answer) }
-        ensures left { OnOk result ((reads_at (here_at site.now) self.now (front self.now) key).after ≡ self.now) }
-        ensures writes { OnOk result ((reads_at (here_at site.now) self.now (front self.now) key).writes ≡ []) }
+        requires up { self.now.replica.up ≡ true }
+        requires pages { site.now.pages ≡ length self.now.replica.pages }
+        ensures answer { IfOk result (λ a. a ≡ (reads_at (here_at site.now) self.now.replica (front self.now.replica) key).answer) }
+        ensures left { OnOk result ((reads_at (here_at site.now) self.now.replica (front self.now.replica) key).after ≡ self.now.replica) }
+        ensures writes { OnOk result ((reads_at (here_at site.now) self.now.replica (front self.now.replica) key).writes ≡ []) }
     {
         let records = self.home.records();
         let front = self.stripes.front();
@@ -239,15 +248,16 @@ impl Node {
         term: u64,
         block: &Block,
         suffix: &Suffix,
-    ) -> Result<(Answer, Option<Message>), NoMemory>
+    ) -> Result<(Answer, Option<Message>), NodeFault>
         requires fits { IsBlock block.now }
         requires whole { IsWhole block.now.records }
-        ensures answer { IfOk result (λ x. x.0 ≡ (cut_part site.now.pages site.now.number suffix.now self.old (block_part (here_at site.now) from self.old full term block.now)).answer) }
-        ensures out { IfOk result (λ x. posting_of from x.1 ≡ (cut_part site.now.pages site.now.number suffix.now self.old (block_part (here_at site.now) from self.old full term block.now)).out) }
+        ensures answer { IfOk result (λ x. x.0 ≡ (cut_part site.now.pages site.now.number suffix.now self.old.replica (block_part (here_at site.now) from self.old.replica full term block.now)).answer) }
+        ensures out { IfOk result (λ x. posting_of from x.1 ≡ (cut_part site.now.pages site.now.number suffix.now self.old.replica (block_part (here_at site.now) from self.old.replica full term block.now)).out) }
         ensures built { IfOk result (λ x. IfSome x.1 IsBuiltMessage) }
-        ensures after { OnOk result (self.new ≡ (cut_part site.now.pages site.now.number suffix.now self.old (block_part (here_at site.now) from self.old full term block.now)).after) }
-        ensures leaves { IfOk result (λ x. leaves x.0 ≡ leaves (block_part (here_at site.now) from self.old full term block.now).answer) }
-        ensures pages { length self.new.pages ≡ length self.old.pages }
+        ensures after { OnOk result (self.new.replica ≡ (cut_part site.now.pages site.now.number suffix.now self.old.replica (block_part (here_at site.now) from self.old.replica full term block.now)).after) }
+        ensures leaves { IfOk result (λ x. leaves x.0 ≡ leaves (block_part (here_at site.now) from self.old.replica full term block.now).answer) }
+        ensures pages { length self.new.replica.pages ≡ length self.old.replica.pages }
+        ensures fault { IsErrOf result NodeFault.DiskFault → HasRisen self.old.faults self.new.faults }
     {
         if let Some(told) = self.block_case(site, from, full, term, block)? {
             return Ok(told);
@@ -274,13 +284,13 @@ impl Node {
         term: u64,
         block: &Block,
     ) -> Result<Option<(Answer, Option<Message>)>, NoMemory>
-        ensures part { IfOk result (λ told. MatchOption told (block_part (here_at site.now) from self.now full term block.now ≡ hardens_block from self.now block.now) (λ x. block_part (here_at site.now) from self.now full term block.now ≡ sending x.0 (posting_of from x.1) self.now)) }
+        ensures part { IfOk result (λ told. MatchOption told (block_part (here_at site.now) from self.now.replica full term block.now ≡ hardens_block from self.now.replica block.now) (λ x. block_part (here_at site.now) from self.now.replica full term block.now ≡ sending x.0 (posting_of from x.1) self.now.replica)) }
         ensures built { IfOk result (λ told. IfSome told (λ x. IfSome x.1 IsBuiltMessage)) }
-        ensures follows { IfOk result (λ told. IfNone told (self.now.leads ≡ false)) }
-        ensures state { IfOk result (λ told. IfNone told ((self.now.state == 1) ≡ true)) }
-        ensures up { IfOk result (λ told. IfNone told (self.now.up ≡ true)) }
-        ensures next { IfOk result (λ told. IfNone told (block.now.first ≡ end self.now + 1)) }
-        ensures room { IfOk result (λ told. IfNone told (block_sectors block.now.records ≤ free_sectors self.now.kept.log)) }
+        ensures follows { IfOk result (λ told. IfNone told (self.now.replica.leads ≡ false)) }
+        ensures state { IfOk result (λ told. IfNone told ((self.now.replica.state == 1) ≡ true)) }
+        ensures up { IfOk result (λ told. IfNone told (self.now.replica.up ≡ true)) }
+        ensures next { IfOk result (λ told. IfNone told (block.now.first ≡ end self.now.replica + 1)) }
+        ensures room { IfOk result (λ told. IfNone told (block_sectors block.now.records ≤ free_sectors self.now.replica.kept.log)) }
     {
         if self.leads() || term != TERM || !self.follows() {
             return Ok(Some((Answer::No(Refusal::Nothing), None)));
@@ -306,8 +316,8 @@ impl Node {
 
     /// Why the log has no room for a block of these records, if it has none.
     fn block_refusal(&self, new: &[Record]) -> Result<Option<Refusal>, NoMemory>
-        requires up { self.now.up ≡ true }
-        ensures { IfOk result (λ why. IsRefusedBy why (log_check self.now (new.now ∷ []))) }
+        requires up { self.now.replica.up ≡ true }
+        ensures { IfOk result (λ why. IsRefusedBy why (log_check self.now.replica (new.now ∷ []))) }
     {
         self.log_refusal(records_size(new)?)
     }
@@ -318,16 +328,17 @@ impl Node {
         alloc: Global,
         block: &Block,
         suffix: &Suffix,
-    ) -> Result<Reach, NoMemory>
+    ) -> Result<Reach, NodeFault>
         requires fits { ArePayload block.now.records }
         requires whole { IsWhole block.now.records }
-        requires up { self.old.up ≡ true }
-        requires follows { self.old.leads ≡ false }
-        requires next { block.now.first ≡ end self.old + 1 }
-        requires room { block_sectors block.now.records ≤ free_sectors self.old.kept.log }
+        requires up { self.old.replica.up ≡ true }
+        requires follows { self.old.replica.leads ≡ false }
+        requires next { block.now.first ≡ end self.old.replica + 1 }
+        requires room { block_sectors block.now.records ≤ free_sectors self.old.replica.kept.log }
         ensures reach { IfOk result (λ r. r ≡ how_far suffix.now (block_sectors block.now.records) 2) }
-        ensures after { IfOk result (λ r. self.new ≡ (part_reached 0 self.old (hardens_block 0 self.old block.now) (Block_write block.now.records) r).after) }
-        ensures pages { length self.new.pages ≡ length self.old.pages }
+        ensures after { IfOk result (λ r. self.new.replica ≡ (part_reached 0 self.old.replica (hardens_block 0 self.old.replica block.now) (Block_write block.now.records) r).after) }
+        ensures pages { length self.new.replica.pages ≡ length self.old.replica.pages }
+        ensures fault { IsErrOf result NodeFault.DiskFault → HasRisen self.old.faults self.new.faults }
     {
         match self.home.harden(block, suffix) {
             Ok(Reach::End) => Ok(Reach::End),
@@ -348,7 +359,7 @@ impl Node {
 
     /// The Ack of a replica that has hardened up to an LSN.
     fn ack(&self, hardened: u64) -> Message
-        ensures is { result ≡ ack_message self.now hardened }
+        ensures is { result ≡ ack_message self.now.replica hardened }
         ensures built { IsBuiltMessage result }
     {
         Message {

@@ -1,5 +1,5 @@
 //! What the events of a primary do.
-ghost use Rattle.std.specs.Prelude.{◌≡◌, ◌+◌, ◌-◌, ◌≤◌, ◌==◌, ◌∷◌, [], IfOk, OnOk, IfSome, IfNone, length, false, true, MatchOption, nat_eq};
+ghost use Rattle.std.specs.Prelude.{◌≡◌, ◌+◌, ◌-◌, ◌≤◌, ◌==◌, ◌∷◌, [], IfOk, OnOk, IsErrOf, IfSome, IfNone, length, false, true, MatchOption, nat_eq};
 ghost use Rattle.std.specs.List.{AllByRecursion};
 ghost use Rattle.ag_model.specs.Sizes.{records_size as size_of_records, block_sectors, free_sectors};
 ghost use Rattle.ag_model.specs.Blocks.{after_to, with_block};
@@ -17,11 +17,13 @@ ghost use Rattle.ag_node.specs.Out.{posting_of};
 ghost use Rattle.ag_node.specs.Sites.{here_at};
 ghost use Rattle.ag_node.specs.Suffixes.{cut_part};
 ghost use Rattle.ag_node.specs.Reaching.{part_reached};
+ghost use Rattle.ag_outside.specs.Counts.{HasRisen};
 ghost use Rattle.ag_kept.specs.Reaching.{how_far};
 ghost use Rattle.ag_kept.specs.declared.reach.Reach.{Reach};
 ghost use Rattle.ag_node.specs.Nodes.{IsRefusedBy};
 
 use super::{Node, TERM, device_failed, down, not_primary, stopped};
+use crate::fault::NodeFault;
 use crate::listed::records_of_set;
 use crate::marks::mark;
 use crate::room::{first_full, spend};
@@ -34,24 +36,26 @@ use ag_model::event::{Pair, PairList, Suffix};
 use ag_model::list::ListOf;
 use ag_model::message::{Block, Body, Message};
 use ag_model::value::NoMemory;
+use ag_outside::disk::Disk;
 use std::alloc::Global;
 use std::mem;
 
 /// The most bytes of records that the buffer holds.
 const BUFFER_BYTES: u64 = 15_488;
 
-impl Node {
+impl<D: Disk> Node<D> {
     /// `set` at this replica: a whole transaction of these puts.
     #[tactic(auto, unfolding(ag_rules::specs::SetEvent::set_part))]
     pub fn set(&mut self, alloc: Global, site: &Site, pairs: &PairList) -> Result<Answer, NoMemory>
-        requires pages { site.now.pages ≡ length self.old.pages }
+        requires pages { site.now.pages ≡ length self.old.replica.pages }
         requires some { 1 ≤ length pairs.now }
         requires few { length pairs.now ≤ 8 }
         requires values { AllByRecursion IsPair pairs.now }
-        ensures answer { IfOk result (λ a. a ≡ (set_part (here_at site.now) self.old pairs.now).answer) }
-        ensures after { OnOk result (self.new ≡ (set_part (here_at site.now) self.old pairs.now).after) }
-        ensures writes { OnOk result ((set_part (here_at site.now) self.old pairs.now).writes ≡ []) }
-        ensures pages { length self.new.pages ≡ length self.old.pages }
+        ensures answer { IfOk result (λ a. a ≡ (set_part (here_at site.now) self.old.replica pairs.now).answer) }
+        ensures after { OnOk result (self.new.replica ≡ (set_part (here_at site.now) self.old.replica pairs.now).after) }
+        ensures writes { OnOk result ((set_part (here_at site.now) self.old.replica pairs.now).writes ≡ []) }
+        ensures pages { length self.new.replica.pages ≡ length self.old.replica.pages }
+        ensures faults { self.new.faults ≡ self.old.faults }
     {
         if !self.is_up() {
             return Ok(down(site));
@@ -68,15 +72,15 @@ impl Node {
 
     /// Whether no transaction can begin any more.
     fn is_spent(&self) -> bool
-        ensures { result ≡ is_spent self.now.leading.last_txn }
+        ensures { result ≡ is_spent self.now.replica.leading.last_txn }
     {
         self.last_txn >= 9_223_372_036_854_775_808
     }
 
     /// The LSN of the record so many after the buffer's last.
     fn lsn_after(&self, more: u64) -> Result<u64, NoMemory>
-        requires up { self.now.up ≡ true }
-        ensures { IfOk result (λ lsn. lsn ≡ full_end self.now + more) }
+        requires up { self.now.replica.up ≡ true }
+        ensures { IfOk result (λ lsn. lsn ≡ full_end self.now.replica + more) }
     {
         let end = self.home.end().checked_add(self.buffer.len() as u64);
         let lsn = end.and_then(|end| end.checked_add(more));
@@ -85,16 +89,17 @@ impl Node {
 
     /// The transaction, where each pair has room on its page and the buffer has room for all records.
     fn set_pairs(&mut self, alloc: Global, site: &Site, pairs: &[Pair]) -> Result<Answer, NoMemory>
-        requires pages { site.now.pages ≡ length self.old.pages }
-        requires up { self.old.up ≡ true }
-        requires leads { self.old.leads ≡ true }
+        requires pages { site.now.pages ≡ length self.old.replica.pages }
+        requires up { self.old.replica.up ≡ true }
+        requires leads { self.old.replica.leads ≡ true }
         requires some { 1 ≤ length pairs.now }
         requires few { length pairs.now ≤ 8 }
         requires values { AllByRecursion IsPair pairs.now }
-        ensures answer { IfOk result (λ a. a ≡ (pairs_pass (here_at site.now) self.old (self.old.leading.last_txn + 1) [] pairs.now (sets self.old (records_of_set site.now.pages (self.old.leading.last_txn + 1) pairs.now))).answer) }
-        ensures writes { OnOk result ((pairs_pass (here_at site.now) self.old (self.old.leading.last_txn + 1) [] pairs.now (sets self.old (records_of_set site.now.pages (self.old.leading.last_txn + 1) pairs.now))).writes ≡ []) }
-        ensures after { OnOk result (self.new ≡ (pairs_pass (here_at site.now) self.old (self.old.leading.last_txn + 1) [] pairs.now (sets self.old (records_of_set site.now.pages (self.old.leading.last_txn + 1) pairs.now))).after) }
-        ensures pages { length self.new.pages ≡ length self.old.pages }
+        ensures answer { IfOk result (λ a. a ≡ (pairs_pass (here_at site.now) self.old.replica (self.old.replica.leading.last_txn + 1) [] pairs.now (sets self.old.replica (records_of_set site.now.pages (self.old.replica.leading.last_txn + 1) pairs.now))).answer) }
+        ensures writes { OnOk result ((pairs_pass (here_at site.now) self.old.replica (self.old.replica.leading.last_txn + 1) [] pairs.now (sets self.old.replica (records_of_set site.now.pages (self.old.replica.leading.last_txn + 1) pairs.now))).writes ≡ []) }
+        ensures after { OnOk result (self.new.replica ≡ (pairs_pass (here_at site.now) self.old.replica (self.old.replica.leading.last_txn + 1) [] pairs.now (sets self.old.replica (records_of_set site.now.pages (self.old.replica.leading.last_txn + 1) pairs.now))).after) }
+        ensures pages { length self.new.replica.pages ≡ length self.old.replica.pages }
+        ensures faults { self.new.faults ≡ self.old.faults }
     {
         if let Some(why) = first_full(site.pages, self.used.as_slice(), pairs) {
             return Ok(Answer::No(why));
@@ -121,11 +126,12 @@ impl Node {
         alloc: Global,
         site: &Site,
         suffix: &Suffix,
-    ) -> Result<Answer, NoMemory>
-        requires pages { site.now.pages ≡ length self.old.pages }
-        ensures answer { IfOk result (λ a. a ≡ (cut_part site.now.pages site.now.number suffix.now self.old (harden_part (here_at site.now) self.old)).answer) }
-        ensures after { OnOk result (self.new ≡ (cut_part site.now.pages site.now.number suffix.now self.old (harden_part (here_at site.now) self.old)).after) }
-        ensures pages { length self.new.pages ≡ length self.old.pages }
+    ) -> Result<Answer, NodeFault>
+        requires pages { site.now.pages ≡ length self.old.replica.pages }
+        ensures answer { IfOk result (λ a. a ≡ (cut_part site.now.pages site.now.number suffix.now self.old.replica (harden_part (here_at site.now) self.old.replica)).answer) }
+        ensures after { OnOk result (self.new.replica ≡ (cut_part site.now.pages site.now.number suffix.now self.old.replica (harden_part (here_at site.now) self.old.replica)).after) }
+        ensures pages { length self.new.replica.pages ≡ length self.old.replica.pages }
+        ensures fault { IsErrOf result NodeFault.DiskFault → HasRisen self.old.faults self.new.faults }
     {
         let _ = &self.home;
         if let Some(why) = self.harden_refusal(site)? {
@@ -142,11 +148,11 @@ impl Node {
     /// Why the buffer isn't hardened, if it isn't.
     #[tactic(auto, unfolding(ag_rules::specs::HardenEvent::harden_part))]
     fn harden_refusal(&self, site: &Site) -> Result<Option<Refusal>, NoMemory>
-        ensures part { IfOk result (λ w. MatchOption w (harden_part (here_at site.now) self.now ≡ hardens site.now.pages self.now (due_pages site.now.pages (hardened_one site.now.pages self.now))) (λ why. harden_part (here_at site.now) self.now ≡ refused why self.now)) }
-        ensures up { IfOk result (λ w. IfNone w (self.now.up ≡ true)) }
-        ensures leads { IfOk result (λ w. IfNone w (self.now.leads ≡ true)) }
-        ensures room { IfOk result (λ w. IfNone w (block_sectors self.now.leading.buffer ≤ free_sectors self.now.kept.log)) }
-        ensures some { IfOk result (λ w. IfNone w ((length self.now.leading.buffer == 0) ≡ false)) }
+        ensures part { IfOk result (λ w. MatchOption w (harden_part (here_at site.now) self.now.replica ≡ hardens site.now.pages self.now.replica (due_pages site.now.pages (hardened_one site.now.pages self.now.replica))) (λ why. harden_part (here_at site.now) self.now.replica ≡ refused why self.now.replica)) }
+        ensures up { IfOk result (λ w. IfNone w (self.now.replica.up ≡ true)) }
+        ensures leads { IfOk result (λ w. IfNone w (self.now.replica.leads ≡ true)) }
+        ensures room { IfOk result (λ w. IfNone w (block_sectors self.now.replica.leading.buffer ≤ free_sectors self.now.replica.kept.log)) }
+        ensures some { IfOk result (λ w. IfNone w ((length self.now.replica.leading.buffer == 0) ≡ false)) }
     {
         if !self.is_up() {
             return Ok(Some(Refusal::Down { node: site.number }));
@@ -164,15 +170,15 @@ impl Node {
     }
 
     fn is_buffer_empty(&self) -> bool
-        ensures { result ≡ (length self.now.leading.buffer == 0) }
+        ensures { result ≡ (length self.now.replica.leading.buffer == 0) }
     {
         self.buffer.is_empty()
     }
 
     /// Why the log has no room for the buffer, if it has none.
     fn buffer_refusal(&self) -> Result<Option<Refusal>, NoMemory>
-        requires up { self.now.up ≡ true }
-        ensures { IfOk result (λ why. IsRefusedBy why (log_check self.now (self.now.leading.buffer ∷ []))) }
+        requires up { self.now.replica.up ≡ true }
+        ensures { IfOk result (λ why. IsRefusedBy why (log_check self.now.replica (self.now.replica.leading.buffer ∷ []))) }
     {
         self.log_refusal(self.buffered)
     }
@@ -184,15 +190,16 @@ impl Node {
         alloc: Global,
         pages: u16,
         suffix: &Suffix,
-    ) -> Result<Reach, NoMemory>
-        requires pages { pages ≡ length self.old.pages }
-        requires up { self.old.up ≡ true }
-        requires leads { self.old.leads ≡ true }
-        requires some { (length self.old.leading.buffer == 0) ≡ false }
-        requires room { block_sectors self.old.leading.buffer ≤ free_sectors self.old.kept.log }
-        ensures reach { IfOk result (λ r. r ≡ how_far suffix.now (block_sectors self.old.leading.buffer) 2) }
-        ensures after { IfOk result (λ r. self.new ≡ (part_reached 0 self.old (hardens pages self.old (due_pages pages (hardened_one pages self.old))) (Block_write self.old.leading.buffer) r).after) }
-        ensures pages { length self.new.pages ≡ length self.old.pages }
+    ) -> Result<Reach, NodeFault>
+        requires pages { pages ≡ length self.old.replica.pages }
+        requires up { self.old.replica.up ≡ true }
+        requires leads { self.old.replica.leads ≡ true }
+        requires some { (length self.old.replica.leading.buffer == 0) ≡ false }
+        requires room { block_sectors self.old.replica.leading.buffer ≤ free_sectors self.old.replica.kept.log }
+        ensures reach { IfOk result (λ r. r ≡ how_far suffix.now (block_sectors self.old.replica.leading.buffer) 2) }
+        ensures after { IfOk result (λ r. self.new.replica ≡ (part_reached 0 self.old.replica (hardens pages self.old.replica (due_pages pages (hardened_one pages self.old.replica))) (Block_write self.old.replica.leading.buffer) r).after) }
+        ensures pages { length self.new.replica.pages ≡ length self.old.replica.pages }
+        ensures fault { IsErrOf result NodeFault.DiskFault → HasRisen self.old.faults self.new.faults }
     {
         let first = self.home.end().checked_add(1).ok_or(NoMemory)?;
         let block = Block {
@@ -231,11 +238,12 @@ impl Node {
         m: u8,
         full: bool,
     ) -> Result<(Answer, Option<Message>), NoMemory>
-        ensures answer { IfOk result (λ x. x.0 ≡ (send_part (here_at site.now) self.old m full).answer) }
-        ensures out { IfOk result (λ x. posting_of m x.1 ≡ (send_part (here_at site.now) self.old m full).out) }
+        ensures answer { IfOk result (λ x. x.0 ≡ (send_part (here_at site.now) self.old.replica m full).answer) }
+        ensures out { IfOk result (λ x. posting_of m x.1 ≡ (send_part (here_at site.now) self.old.replica m full).out) }
         ensures built { IfOk result (λ x. IfSome x.1 IsBuiltMessage) }
-        ensures after { OnOk result (self.new ≡ (send_part (here_at site.now) self.old m full).after) }
-        ensures pages { length self.new.pages ≡ length self.old.pages }
+        ensures after { OnOk result (self.new.replica ≡ (send_part (here_at site.now) self.old.replica m full).after) }
+        ensures pages { length self.new.replica.pages ≡ length self.old.replica.pages }
+        ensures faults { self.new.faults ≡ self.old.faults }
     {
         if !self.is_up() {
             return Ok((down(site), None));
@@ -264,7 +272,7 @@ impl Node {
 
     /// The LSN that replica m is sent next, where it is connected.
     fn next_to_send(&self, m: u8) -> Option<u64>
-        ensures { MatchOption result ((peer self.now m).connected ≡ false) (λ first. ((peer self.now m).connected ≡ true) × (first ≡ (peer self.now m).next)) }
+        ensures { MatchOption result ((peer self.now.replica m).connected ≡ false) (λ first. ((peer self.now.replica m).connected ≡ true) × (first ≡ (peer self.now.replica m).next)) }
     {
         match self.peers.get(usize::from(m)) {
             Some(peer) if peer.connected => Some(peer.next),
@@ -274,12 +282,12 @@ impl Node {
 
     /// The end of the block to send next, where it is hardened.
     fn block_to_send(&self, m: u8, first: u64) -> Option<u64>
-        requires up { self.now.up ≡ true }
-        requires first { first ≡ (peer self.now m).next }
-        ensures end { result ≡ block_to_send self.now m }
-        ensures bounds { IfSome result (λ last. (1 ≤ first) × (first ≤ last) × (last ≤ end self.now)) }
-        ensures small { IfSome result (λ last. size_of_records (after_to (first - 1) last (records self.now)) ≤ 15488) }
-        ensures whole { IfSome result (λ last. IsWhole (after_to (first - 1) last (records self.now))) }
+        requires up { self.now.replica.up ≡ true }
+        requires first { first ≡ (peer self.now.replica m).next }
+        ensures end { result ≡ block_to_send self.now.replica m }
+        ensures bounds { IfSome result (λ last. (1 ≤ first) × (first ≤ last) × (last ≤ end self.now.replica)) }
+        ensures small { IfSome result (λ last. size_of_records (after_to (first - 1) last (records self.now.replica)) ≤ 15488) }
+        ensures whole { IfSome result (λ last. IsWhole (after_to (first - 1) last (records self.now.replica))) }
     {
         self.home.block_from(first)
     }
@@ -292,16 +300,17 @@ impl Node {
         first: u64,
         last: u64,
     ) -> Result<Message, NoMemory>
-        requires up { self.old.up ≡ true }
-        requires connected { (peer self.old m).connected ≡ true }
-        requires first { first ≡ (peer self.old m).next }
-        requires bounds { (1 ≤ first) × (first ≤ last) × (last ≤ end self.old) }
-        requires small { size_of_records (after_to (first - 1) last (records self.old)) ≤ 15488 }
-        requires whole { IsWhole (after_to (first - 1) last (records self.old)) }
-        ensures message { IfOk result (λ message. message ≡ block_message self.old (peer self.old m).next last) }
+        requires up { self.old.replica.up ≡ true }
+        requires connected { (peer self.old.replica m).connected ≡ true }
+        requires first { first ≡ (peer self.old.replica m).next }
+        requires bounds { (1 ≤ first) × (first ≤ last) × (last ≤ end self.old.replica) }
+        requires small { size_of_records (after_to (first - 1) last (records self.old.replica)) ≤ 15488 }
+        requires whole { IsWhole (after_to (first - 1) last (records self.old.replica)) }
+        ensures message { IfOk result (λ message. message ≡ block_message self.old.replica (peer self.old.replica m).next last) }
         ensures built { IfOk result IsBuiltMessage }
-        ensures after { OnOk result (self.new ≡ with_sent self.old m last) }
-        ensures pages { length self.new.pages ≡ length self.old.pages }
+        ensures after { OnOk result (self.new.replica ≡ with_sent self.old.replica m last) }
+        ensures pages { length self.new.replica.pages ≡ length self.old.replica.pages }
+        ensures faults { self.new.faults ≡ self.old.faults }
     {
         let block = Block {
             first,
@@ -320,9 +329,10 @@ impl Node {
     /// An Ack comes from a replica: what is known of it grows.
     #[tactic(auto, unfolding(ag_rules::specs::AckMessage::ack_message_part))]
     pub fn acknowledge(&mut self, from: u8, term: u64, hardened: u64, low: u64) -> Answer
-        ensures answer { result ≡ (ack_message_part from self.old term hardened low).answer }
-        ensures after { self.new ≡ (ack_message_part from self.old term hardened low).after }
-        ensures pages { length self.new.pages ≡ length self.old.pages }
+        ensures answer { result ≡ (ack_message_part from self.old.replica term hardened low).answer }
+        ensures after { self.new.replica ≡ (ack_message_part from self.old.replica term hardened low).after }
+        ensures pages { length self.new.replica.pages ≡ length self.old.replica.pages }
+        ensures faults { self.new.faults ≡ self.old.faults }
     {
         if !self.leads() || term != TERM || self.next_to_send(from).is_none() {
             return Answer::No(Refusal::Nothing);
@@ -333,10 +343,11 @@ impl Node {
 
     /// Raises what is known of a connected replica.
     fn know(&mut self, from: u8, hardened: u64, low: u64) -> u64
-        requires { (peer self.old from).connected ≡ true }
-        ensures lsn { result ≡ (known_peer (peer self.old from) hardened low).hardened }
-        ensures after { self.new ≡ with_peer self.old from (known_peer (peer self.old from) hardened low) }
-        ensures pages { length self.new.pages ≡ length self.old.pages }
+        requires { (peer self.old.replica from).connected ≡ true }
+        ensures lsn { result ≡ (known_peer (peer self.old.replica from) hardened low).hardened }
+        ensures after { self.new.replica ≡ with_peer self.old.replica from (known_peer (peer self.old.replica from) hardened low) }
+        ensures pages { length self.new.replica.pages ≡ length self.old.replica.pages }
+        ensures faults { self.new.faults ≡ self.old.faults }
     {
         let peer = &mut self.peers[usize::from(from)];
         peer.hardened = peer.hardened.max(hardened);

@@ -1,5 +1,5 @@
 //! Crash, start, and what a replica says of itself.
-ghost use Rattle.std.specs.Prelude.{◌≡◌, ◌+◌, ◌≤◌, ◌<◌, ◌==◌, [], ◌∷◌, false, true, IfOk, OnOk, IfSome, IfNone, length};
+ghost use Rattle.std.specs.Prelude.{◌≡◌, ◌+◌, ◌≤◌, ◌<◌, ◌==◌, [], ◌∷◌, false, true, IfOk, OnOk, IsErrOf, IfSome, IfNone, length};
 ghost use Rattle.ag_rules.specs.Replica.{end, fallen, records};
 ghost use Rattle.ag_rules.specs.Plan.{Master_write, refused, written};
 ghost use Rattle.ag_rules.specs.Promotion.{promotion_records};
@@ -8,11 +8,13 @@ ghost use Rattle.ag_rules.specs.CrashEvent.{crash_part};
 ghost use Rattle.ag_rules.specs.StartEvent.{start_part, started_master, starts_first, starts_second};
 ghost use Rattle.ag_rules.specs.LookEvent.{status_part, printed_state, role_of};
 ghost use Rattle.ag_node.specs.Sites.{here_at, here_among};
+ghost use Rattle.ag_outside.specs.Counts.{HasRisen};
 ghost use Rattle.ag_kept.specs.Reaching.{how_far};
 ghost use Rattle.ag_node.specs.Starting.{CanStart, woken_up, asleep};
 ghost use Rattle.ag_node.specs.Suffixes.{cut_part};
 
 use super::{Node, TERM, device_failed, down, stopped};
+use crate::fault::NodeFault;
 use crate::marks::mark_to_end;
 use crate::opening::strangers;
 use crate::room::used_in;
@@ -26,16 +28,18 @@ use ag_model::config::Mode;
 use ag_model::event::Suffix;
 use ag_model::list::ListOf;
 use ag_model::value::NoMemory;
+use ag_outside::disk::Disk;
 use std::alloc::Global;
 
-impl Node {
+impl<D: Disk> Node<D> {
     /// `crash` at this replica: all is lost but its log and its master.
     #[tactic(auto, unfolding(ag_rules::specs::CrashEvent::crash_part))]
     pub fn crash(&mut self, alloc: Global, site: &Site) -> Answer
-        ensures answer { result ≡ (crash_part (here_at site.now) self.old).answer }
-        ensures after { self.new ≡ (crash_part (here_at site.now) self.old).after }
-        ensures writes { (crash_part (here_at site.now) self.old).writes ≡ [] }
-        ensures pages { length self.new.pages ≡ length self.old.pages }
+        ensures answer { result ≡ (crash_part (here_at site.now) self.old.replica).answer }
+        ensures after { self.new.replica ≡ (crash_part (here_at site.now) self.old.replica).after }
+        ensures writes { (crash_part (here_at site.now) self.old.replica).writes ≡ [] }
+        ensures pages { length self.new.replica.pages ≡ length self.old.replica.pages }
+        ensures faults { self.new.faults ≡ self.old.faults }
     {
         if !self.is_up() {
             return down(site);
@@ -46,8 +50,9 @@ impl Node {
 
     /// Forgets what a crash loses.
     pub(super) fn fall(&mut self, alloc: Global)
-        ensures after { self.new ≡ fallen self.old self.old.kept }
-        ensures pages { length self.new.pages ≡ length self.old.pages }
+        ensures after { self.new.replica ≡ fallen self.old.replica self.old.replica.kept }
+        ensures pages { length self.new.replica.pages ≡ length self.old.replica.pages }
+        ensures faults { self.new.faults ≡ self.old.faults }
     {
         self.home.fall();
         self.stripes = Stripes::all_at(1);
@@ -68,12 +73,13 @@ impl Node {
         site: &Site,
         modes: &[Mode],
         suffix: &Suffix,
-    ) -> Result<Answer, NoMemory>
-        requires pages { site.now.pages ≡ length self.old.pages }
+    ) -> Result<Answer, NodeFault>
+        requires pages { site.now.pages ≡ length self.old.replica.pages }
         requires term { site.now.store.term ≡ 1 }
-        ensures answer { IfOk result (λ a. a ≡ (cut_part site.now.pages site.now.number suffix.now self.old (start_part (here_among site.now modes.now) self.old)).answer) }
-        ensures after { OnOk result (self.new ≡ (cut_part site.now.pages site.now.number suffix.now self.old (start_part (here_among site.now modes.now) self.old)).after) }
-        ensures pages { length self.new.pages ≡ length self.old.pages }
+        ensures answer { IfOk result (λ a. a ≡ (cut_part site.now.pages site.now.number suffix.now self.old.replica (start_part (here_among site.now modes.now) self.old.replica)).answer) }
+        ensures after { OnOk result (self.new.replica ≡ (cut_part site.now.pages site.now.number suffix.now self.old.replica (start_part (here_among site.now modes.now) self.old.replica)).after) }
+        ensures pages { length self.new.replica.pages ≡ length self.old.replica.pages }
+        ensures fault { IsErrOf result NodeFault.DiskFault → HasRisen self.old.faults self.new.faults }
     {
         let _ = &self.home;
         if let Some(why) = self.start_refusal(site, modes)? {
@@ -97,16 +103,18 @@ impl Node {
 
     /// Why it can't start, if it can't.
     #[tactic(auto, unfolding(ag_rules::specs::StartEvent::start_part))]
-    fn start_refusal(&mut self, site: &Site, modes: &[Mode]) -> Result<Option<Refusal>, NoMemory>
-        requires pages { site.now.pages ≡ length self.old.pages }
+    fn start_refusal(&mut self, site: &Site, modes: &[Mode]) -> Result<Option<Refusal>, NodeFault>
+        requires pages { site.now.pages ≡ length self.old.replica.pages }
         requires term { site.now.store.term ≡ 1 }
-        ensures part { IfOk result (λ w. IfSome w (λ why. start_part (here_among site.now modes.now) self.old ≡ refused why self.old)) }
-        ensures can { IfOk result (λ w. IfNone w (CanStart self.old)) }
-        ensures roles { IfOk result (λ w. IfNone w ((self.old.leads ≡ false) × ((self.old.state == 1) ≡ false))) }
-        ensures few { IfOk result (λ w. IfNone w (self.old.kept.master.incarnation < 9223372036854775808)) }
-        ensures writes { IfOk result (λ w. IfNone w ((start_part (here_among site.now modes.now) self.old).writes ≡ [] ∷ (Master_write (started_master self.old) (end self.old) ∷ []) ∷ [])) }
-        ensures left { OnOk result (self.new ≡ self.old) }
-        ensures pages { length self.new.pages ≡ length self.old.pages }
+        ensures part { IfOk result (λ w. IfSome w (λ why. start_part (here_among site.now modes.now) self.old.replica ≡ refused why self.old.replica)) }
+        ensures can { IfOk result (λ w. IfNone w (CanStart self.old.replica)) }
+        ensures roles { IfOk result (λ w. IfNone w ((self.old.replica.leads ≡ false) × ((self.old.replica.state == 1) ≡ false))) }
+        ensures few { IfOk result (λ w. IfNone w (self.old.replica.kept.master.incarnation < 9223372036854775808)) }
+        ensures writes { IfOk result (λ w. IfNone w ((start_part (here_among site.now modes.now) self.old.replica).writes ≡ [] ∷ (Master_write (started_master self.old.replica) (end self.old.replica) ∷ []) ∷ [])) }
+        ensures left { OnOk result (self.new.replica ≡ self.old.replica) }
+        ensures pages { length self.new.replica.pages ≡ length self.old.replica.pages }
+        ensures later { OnOk result (self.old.faults ≤ self.new.faults) }
+        ensures fault { IsErrOf result NodeFault.DiskFault → HasRisen self.old.faults self.new.faults }
     {
         let _ = modes;
         let _ = &self.home;
@@ -121,11 +129,13 @@ impl Node {
     }
 
     /// The incarnation in the master of a node that is down.
-    fn incarnation(&mut self) -> Result<u64, NoMemory>
-        requires down { self.old.up ≡ false }
-        ensures is { IfOk result (λ n. n ≡ self.old.kept.master.incarnation) }
-        ensures left { OnOk result (self.new ≡ self.old) }
-        ensures pages { length self.new.pages ≡ length self.old.pages }
+    fn incarnation(&mut self) -> Result<u64, NodeFault>
+        requires down { self.old.replica.up ≡ false }
+        ensures is { IfOk result (λ n. n ≡ self.old.replica.kept.master.incarnation) }
+        ensures left { OnOk result (self.new.replica ≡ self.old.replica) }
+        ensures pages { length self.new.replica.pages ≡ length self.old.replica.pages }
+        ensures later { OnOk result (self.old.faults ≤ self.new.faults) }
+        ensures fault { IsErrOf result NodeFault.DiskFault → HasRisen self.old.faults self.new.faults }
     {
         match self.home.incarnation() {
             Ok(incarnation) => Ok(incarnation),
@@ -137,12 +147,13 @@ impl Node {
     }
 
     /// Reads the log and the master of a node that is down, and writes the master with the next incarnation.
-    fn start_home(&mut self, alloc: Global, suffix: &Suffix) -> Result<Reach, NoMemory>
-        requires down { self.old.up ≡ false }
-        requires few { self.old.kept.master.incarnation < 9223372036854775808 }
+    fn start_home(&mut self, alloc: Global, suffix: &Suffix) -> Result<Reach, NodeFault>
+        requires down { self.old.replica.up ≡ false }
+        requires few { self.old.replica.kept.master.incarnation < 9223372036854775808 }
         ensures reach { IfOk result (λ r. r ≡ how_far suffix.now 1 3) }
-        ensures after { IfOk result (λ r. self.new ≡ woken_up self.old r) }
-        ensures pages { length self.new.pages ≡ length self.old.pages }
+        ensures after { IfOk result (λ r. self.new.replica ≡ woken_up self.old.replica r) }
+        ensures pages { length self.new.replica.pages ≡ length self.old.replica.pages }
+        ensures fault { IsErrOf result NodeFault.DiskFault → HasRisen self.old.faults self.new.faults }
     {
         match self.home.start(alloc, suffix) {
             Ok(reach) => Ok(reach),
@@ -160,16 +171,16 @@ impl Node {
         site: &Site,
         modes: &[Mode],
     ) -> Result<Answer, NoMemory>
-        requires pages { site.now.pages ≡ length self.old.pages }
+        requires pages { site.now.pages ≡ length self.old.replica.pages }
         requires term { site.now.store.term ≡ 1 }
-        requires up { self.old.up ≡ true }
-        requires leads { self.old.leads ≡ false }
-        requires follows { (self.old.state == 1) ≡ false }
-        requires least { 1 ≤ self.old.kept.master.incarnation }
-        requires can { CanStart (asleep self.old) }
-        ensures answer { IfOk result (λ a. a ≡ (start_part (here_among site.now modes.now) (asleep self.old)).answer) }
-        ensures after { OnOk result (self.new ≡ (start_part (here_among site.now modes.now) (asleep self.old)).after) }
-        ensures pages { length self.new.pages ≡ length self.old.pages }
+        requires up { self.old.replica.up ≡ true }
+        requires leads { self.old.replica.leads ≡ false }
+        requires follows { (self.old.replica.state == 1) ≡ false }
+        requires least { 1 ≤ self.old.replica.kept.master.incarnation }
+        requires can { CanStart (asleep self.old.replica) }
+        ensures answer { IfOk result (λ a. a ≡ (start_part (here_among site.now modes.now) (asleep self.old.replica)).answer) }
+        ensures after { OnOk result (self.new.replica ≡ (start_part (here_among site.now modes.now) (asleep self.old.replica)).after) }
+        ensures pages { length self.new.replica.pages ≡ length self.old.replica.pages }
     {
         if site.store.primary == site.number {
             let answer = self.start_first(alloc, site, modes)?;
@@ -181,14 +192,14 @@ impl Node {
 
     /// Starts as a secondary, and redoes the log.
     fn start_second(&mut self, pages: u16) -> Answer
-        requires pages { pages ≡ length self.old.pages }
-        requires up { self.old.up ≡ true }
-        requires leads { self.old.leads ≡ false }
-        requires follows { (self.old.state == 1) ≡ false }
-        requires least { 1 ≤ self.old.kept.master.incarnation }
-        ensures answer { result ≡ (starts_second (asleep self.old) (touched_up_to pages (end self.old) (asleep self.old))).answer }
-        ensures after { self.new ≡ (starts_second (asleep self.old) (touched_up_to pages (end self.old) (asleep self.old))).after }
-        ensures pages { length self.new.pages ≡ length self.old.pages }
+        requires pages { pages ≡ length self.old.replica.pages }
+        requires up { self.old.replica.up ≡ true }
+        requires leads { self.old.replica.leads ≡ false }
+        requires follows { (self.old.replica.state == 1) ≡ false }
+        requires least { 1 ≤ self.old.replica.kept.master.incarnation }
+        ensures answer { result ≡ (starts_second (asleep self.old.replica) (touched_up_to pages (end self.old.replica) (asleep self.old.replica))).answer }
+        ensures after { self.new.replica ≡ (starts_second (asleep self.old.replica) (touched_up_to pages (end self.old.replica) (asleep self.old.replica))).after }
+        ensures pages { length self.new.replica.pages ≡ length self.old.replica.pages }
     {
         let _ = pages;
         let end = self.home.end();
@@ -213,16 +224,16 @@ impl Node {
         site: &Site,
         modes: &[Mode],
     ) -> Result<Answer, NoMemory>
-        requires pages { site.now.pages ≡ length self.old.pages }
+        requires pages { site.now.pages ≡ length self.old.replica.pages }
         requires term { site.now.store.term ≡ 1 }
-        requires up { self.old.up ≡ true }
-        requires leads { self.old.leads ≡ false }
-        requires follows { (self.old.state == 1) ≡ false }
-        requires least { 1 ≤ self.old.kept.master.incarnation }
-        ensures none { OnOk result (promotion_records site.now.pages 1 (records self.old) ≡ []) }
-        ensures answer { IfOk result (λ a. a ≡ (starts_first (here_among site.now modes.now) (asleep self.old) []).answer) }
-        ensures after { OnOk result (self.new ≡ (starts_first (here_among site.now modes.now) (asleep self.old) []).after) }
-        ensures pages { length self.new.pages ≡ length self.old.pages }
+        requires up { self.old.replica.up ≡ true }
+        requires leads { self.old.replica.leads ≡ false }
+        requires follows { (self.old.replica.state == 1) ≡ false }
+        requires least { 1 ≤ self.old.replica.kept.master.incarnation }
+        ensures none { OnOk result (promotion_records site.now.pages 1 (records self.old.replica) ≡ []) }
+        ensures answer { IfOk result (λ a. a ≡ (starts_first (here_among site.now modes.now) (asleep self.old.replica) []).answer) }
+        ensures after { OnOk result (self.new.replica ≡ (starts_first (here_among site.now modes.now) (asleep self.old.replica) []).after) }
+        ensures pages { length self.new.replica.pages ≡ length self.old.replica.pages }
     {
         let end = self.home.end();
         let records = self.home.records();
@@ -250,9 +261,9 @@ impl Node {
     #[tactic(auto, unfolding(ag_rules::specs::LookEvent::status_part))]
     pub fn status(&self, site: &Site) -> Answer
         requires number { site.now.number < 16 }
-        ensures answer { result ≡ (status_part (here_at site.now) self.now).answer }
-        ensures left { (status_part (here_at site.now) self.now).after ≡ self.now }
-        ensures writes { (status_part (here_at site.now) self.now).writes ≡ [] }
+        ensures answer { result ≡ (status_part (here_at site.now) self.now.replica).answer }
+        ensures left { (status_part (here_at site.now) self.now.replica).after ≡ self.now.replica }
+        ensures writes { (status_part (here_at site.now) self.now.replica).writes ≡ [] }
     {
         if !self.is_up() {
             return down(site);
@@ -268,7 +279,7 @@ impl Node {
 
     /// The role as it is printed.
     fn role(&self) -> Role
-        ensures { result ≡ role_of self.now }
+        ensures { result ≡ role_of self.now.replica }
     {
         if self.leads() {
             Role::Primary
@@ -280,7 +291,7 @@ impl Node {
     /// The state as it is printed: 2 for a primary, and for a member that follows.
     fn printed_state(&self, site: &Site) -> u8
         requires number { site.now.number < 16 }
-        ensures { result ≡ printed_state (here_at site.now) self.now }
+        ensures { result ≡ printed_state (here_at site.now) self.now.replica }
     {
         if self.leads() {
             return 2;

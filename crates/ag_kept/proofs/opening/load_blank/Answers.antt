@@ -49,3 +49,9 @@ pub returns-in-Err-DiskFault-clause-fault : goal.returns-in-Err-DiskFault-clause
 returns-in-Err-DiskFault-clause-fault g c = λ e.
     let d = g.D.Disk in
     free_fails d.keeps d.reads d.faults c.args.disk.now c.arm.new.self c.load.new.disk c.arm.ensures c.requires.blank.unsynced (c.load.ensures.broken (c.in-Err-DiskFault.is ∙ ap (λ e. Err e) c.in-Err-DiskFault.field-0-is))
+
+pub returns-in-Ok-clause-same : goal.returns-in-Ok-clause-same
+returns-in-Ok-clause-same g c =
+    let d = g.D.Disk in
+    let k : IsTrue (d.keeps c.arm.new.self.disk) = subst (λ (v : ScriptedView _). IsTrue (d.keeps v.disk)) (sym c.arm.ensures) c.requires.blank.modelled in
+    c.in-Ok.ensures.reads k ∙ ap (reads_of d.reads) c.arm.ensures

@@ -2,10 +2,12 @@ use Rattle.std.proofs.Common.{◌≡◌, ◌+◌, ◌≤◌, IsTrue, List, Ok, l
 use Rattle.ag_model.specs.declared.message.Block.{Block}
 use Rattle.ag_model.specs.declared.record.Record.{Record}
 use Rattle.ag_model.specs.Sizes.{block_sectors, free_sectors}
+use Rattle.ag_outside.specs.Disks.{Image}
 use Rattle.ag_outside.specs.Shown.{reads_of}
 use Rattle.ag_logstore.specs.Stores.{StoreView}
 use Rattle.ag_kept.specs.declared.reach.Reach.{Reach}
 use Rattle.ag_kept.proofs.Calls.{risen_before}
+use Rattle.ag_kept.proofs.Homes.{master_leaves_pages, log_leaves_pages}
 use Rattle.ag_kept.proofs.Opened.{both_ok, opened_log, opened_store_is, opened_at_home, opened_kept_on, opened_memory}
 use Rattle.ag_kept.proofs.opening.write_opening.Goals as goal
 
@@ -69,3 +71,12 @@ returns-in-Ok-clause-fault g c =
 
 pub returns-in-Ok-clause-later : goal.returns-in-Ok-clause-later
 returns-in-Ok-clause-later g c = both_ok c.save_freely.result c.save_freely.ensures.later c.save_freely.ensures.later (λ later again. omega (arith, c.in-Ok.ensures.later, later))
+
+pub returns-in-Ok-clause-pages : goal.returns-in-Ok-clause-pages
+returns-in-Ok-clause-pages g c =
+    let d = g.D.Disk in
+    let old = reads_of d.reads c.args.disk.now in
+    let mid = reads_of d.reads c.append.new.disk in
+    let log_written = log_leaves_pages old mid _ _ _ c.in-Ok.ensures.log in
+    both_ok c.save_freely.result c.save_freely.ensures.image c.save_freely.ensures.image
+    (λ is again at page. ap (λ (i : Image). i at) is ∙ master_leaves_pages mid c.args.master.now at page ∙ log_written at page)

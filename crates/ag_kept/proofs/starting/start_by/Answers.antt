@@ -3,7 +3,8 @@ use Rattle.ag_outside.specs.Scripts.{ScriptedView}
 use Rattle.ag_outside.specs.Shown.{reads_of}
 use Rattle.ag_kept.specs.declared.reach.Reach.{Reach}
 use Rattle.ag_kept.specs.Kept.{kept_on, started}
-use Rattle.ag_kept.proofs.Started.{was_loaded, can_raise, start_far, start_home, start_end_kept, start_kept, start_memory}
+use Rattle.ag_kept.proofs.Homes.{reads_leave_pages}
+use Rattle.ag_kept.proofs.Started.{was_loaded, can_raise, start_far, start_home, start_end_kept, start_kept, start_memory, started_pages}
 use Rattle.ag_kept.proofs.starting.start_by.Goals as goal
 
 pub raise-requires-clause-block : goal.raise-requires-clause-block
@@ -75,3 +76,23 @@ pub returns-in-Ok-Fault-clause-later : goal.returns-in-Ok-Fault-clause-later
 returns-in-Ok-Fault-clause-later g c =
     let d = g.D.Disk in
     omega (arith, ap (λ (v : ScriptedView _). d.faults v.disk) c.arm.ensures, c.in-Ok-Some.ensures.later, c.in-Ok-Fault.ensures.later)
+
+pub returns-in-Ok-End-clause-pages : goal.returns-in-Ok-End-clause-pages
+returns-in-Ok-End-clause-pages g c =
+    let d = g.D.Disk in
+    started_pages (reads_of d.reads c.args.disk.now) (reads_of d.reads c.load_log.new.disk) (reads_of d.reads c.raise.new.disk) _ c.in-Ok-End.field-0 (c.in-Ok-Some.ensures.same ∙ ap (reads_of d.reads) c.arm.ensures) c.in-Ok-End.ensures.image
+
+pub returns-in-Ok-Stop-clause-pages : goal.returns-in-Ok-Stop-clause-pages
+returns-in-Ok-Stop-clause-pages g c =
+    let d = g.D.Disk in
+    started_pages (reads_of d.reads c.args.disk.now) (reads_of d.reads c.load_log.new.disk) (reads_of d.reads c.raise.new.disk) _ c.in-Ok-Stop.field-0 (c.in-Ok-Some.ensures.same ∙ ap (reads_of d.reads) c.arm.ensures) c.in-Ok-Stop.ensures.image
+
+pub returns-in-Ok-Fault-clause-pages : goal.returns-in-Ok-Fault-clause-pages
+returns-in-Ok-Fault-clause-pages g c =
+    let d = g.D.Disk in
+    started_pages (reads_of d.reads c.args.disk.now) (reads_of d.reads c.load_log.new.disk) (reads_of d.reads c.raise.new.disk) _ c.in-Ok-Fault.field-0 (c.in-Ok-Some.ensures.same ∙ ap (reads_of d.reads) c.arm.ensures) c.in-Ok-Fault.ensures.image
+
+pub returns-in-Ok-None-clause-pages : goal.returns-in-Ok-None-clause-pages
+returns-in-Ok-None-clause-pages g c =
+    let d = g.D.Disk in
+    reads_leave_pages (reads_of d.reads c.args.disk.now) (reads_of d.reads c.load_log.new.disk) (c.in-Ok-None.ensures.same ∙ ap (reads_of d.reads) c.arm.ensures)

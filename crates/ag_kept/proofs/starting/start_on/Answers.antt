@@ -4,6 +4,8 @@ use Rattle.ag_outside.specs.Shown.{reads_of}
 use Rattle.ag_kept.specs.Kept.{master_on, kept_on, started}
 use Rattle.ag_kept.proofs.Calls.{risen_before}
 use Rattle.ag_kept.proofs.Coming.{if_ok}
+use Rattle.ag_kept.proofs.Homes.{reads_leave_pages, pages_then}
+use Rattle.ag_kept.proofs.Opened.{both_ok}
 use Rattle.ag_kept.proofs.Started.{settled_home}
 use Rattle.ag_kept.proofs.starting.start_on.Goals as goal
 
@@ -28,3 +30,9 @@ pub returns-in-Ok-clause-fault : goal.returns-in-Ok-clause-fault
 returns-in-Ok-clause-fault g c = λ e.
     let f = g.D.Disk.faults in
     risen_before (f c.args.disk.now.disk) (f c.read_master.new.disk.disk) (f c.start_by.new.disk.disk) c.in-Ok.ensures.later (c.start_by.ensures.fault e)
+
+pub returns-in-Ok-clause-pages : goal.returns-in-Ok-clause-pages
+returns-in-Ok-clause-pages g c =
+    let d = g.D.Disk in
+    let read = reads_leave_pages (reads_of d.reads c.args.disk.now) (reads_of d.reads c.read_master.new.disk) c.in-Ok.ensures.same in
+    both_ok c.start_by.result c.start_by.ensures.pages c.start_by.ensures.pages (λ later again. pages_then (reads_of d.reads c.args.disk.now) (reads_of d.reads c.read_master.new.disk) (reads_of d.reads c.start_by.new.disk) read later)

@@ -1,17 +1,22 @@
-use Rattle.std.proofs.Common.{◌≡◌, List, length, replicate, [], refl, sym, ap, ◌∙◌, subst}
+use Rattle.std.proofs.Common.{◌≡◌, ap, ◌∙◌, subst, sym, length, replicate, []}
 use Rattle.ag_model.specs.declared.config.Config.{Config}
-use Rattle.ag_model.specs.declared.config.Mode.{Mode}
-use Rattle.ag_rules.specs.Script.{IsConfig}
+use Rattle.ag_model.specs.declared.config.Register.{Register}
 use Rattle.ag_rules.specs.Group.{opening_replicas}
-use Rattle.ag_group.proofs.Openings.{group_opened}
+use Rattle.ag_rules.specs.Script.{IsConfig}
+use Rattle.ag_group.proofs.Openings.{count_of_faults, group_opened}
 use Rattle.ag_group.proofs.group.Group.create.Goals as goal
 
 pub invariant_of-result : goal.invariant_of-result
-invariant_of-result c =
-    let copy : c.in_ok-copy_of.field-0 ≡ c.args.config.now = c.in_ok-copy_of.ensures in
-    group_opened c.in_ok-copy_of.field-0 c.in_ok-opening_nodes.field-0.items c.in_ok-opening_links.field-0.items _ c.in_ok-no_tokens.field-0.items
-    (subst (λ (x : Config). IsConfig x) (sym copy) c.requires)
-    (c.in_ok-opening_nodes.ensures ∙ ap (λ (m : List Mode). opening_replicas c.args.config.now m) c.as_slice-modes.ensures ∙ (λ i. opening_replicas (sym copy i) (sym copy i).modes))
-    (c.in_ok-opening_links.ensures
-    ∙ (λ i. replicate (length ((c.as_slice-modes.ensures ∙ ap (λ (x : Config). x.modes) (sym copy)) i)) (replicate (length ((c.as_slice-modes.ensures ∙ ap (λ (x : Config). x.modes) (sym copy)) i)) [])))
-    c.in_ok-no_tokens.ensures refl refl
+invariant_of-result g c =
+    let parts = c.in-Ok.parts in
+    let same : c.args.config.now ≡ parts.config = sym c.in-Ok.ensures.config in
+    group_opened parts.config c.in-Ok-opening_nodes.nodes.items parts.links.items parts.register parts.tokens.items
+    (subst (λ (x : Config). IsConfig x) same c.requires.config)
+    (c.in-Ok-opening_nodes.ensures.nodes ∙ (λ i. opening_replicas (same i) (same i).modes))
+    (c.in-Ok.ensures.links ∙ (λ i. replicate (length (same i).modes) (replicate (length (same i).modes) [])))
+    c.in-Ok.ensures.tokens
+    (ap (λ (r : Register). r.primary) c.in-Ok.ensures.register)
+    (ap (λ (r : Register). r.term) c.in-Ok.ensures.register)
+
+pub returns-in-Ok-opening_nodes-clause-faults : goal.returns-in-Ok-opening_nodes-clause-faults
+returns-in-Ok-opening_nodes-clause-faults g c = count_of_faults c.args.config.now c.in-Ok-opening_nodes.nodes.items c.in-Ok-opening_nodes.ensures.nodes

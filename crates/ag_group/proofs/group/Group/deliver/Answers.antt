@@ -6,7 +6,7 @@ use Rattle.ag_group.proofs.Refused.{deliver_left}
 use Rattle.ag_group.proofs.group.Group.deliver.Goals as goal
 
 pub returns-clause-refused : goal.returns-clause-refused
-returns-clause-refused c why is t =
+returns-clause-refused g c why is t =
     c.in_ok-answer.ensures.after
-    ∙ cut_left c.args.suffix.now (apart c.args.self.now c.args.n c.args.m (plan_of_deliver c.args.self.now c.args.n c.args.m c.args.number c.args.repeats)) c.args.self.now why
-    (λ e. deliver_left c.args.self.now c.args.n c.args.m c.args.number c.args.repeats (λ message two is. (c.in_ok-answer.ensures.built message two is).0) why e t) (sym c.in_ok-answer.ensures.answer ∙ is)
+    ∙ cut_left c.args.suffix.now (apart c.args.self.now.group c.args.n c.args.m (plan_of_deliver c.args.self.now.group c.args.n c.args.m c.args.number c.args.repeats)) c.args.self.now.group why
+    (λ e. deliver_left c.args.self.now.group c.args.n c.args.m c.args.number c.args.repeats (λ message two is. (c.in_ok-answer.ensures.built message two is).0) why e t) (sym c.in_ok-answer.ensures.answer ∙ is)

@@ -7,43 +7,56 @@ use Rattle.ag_rules.specs.Plan.{here}
 use Rattle.ag_rules.specs.Checks.{token_or_none}
 use Rattle.ag_rules.specs.Next.{at_session, token}
 use Rattle.ag_rules.specs.ReadEvent.{read_part}
-use Rattle.ag_group.specs.contracts.group.Group.{the_view}
+use Rattle.ag_group.specs.Seen.{GroupView, group_of, replicas_of}
+use Rattle.ag_group.proofs.Nodes.{count_is, node_read, pages_at}
 use Rattle.ag_group.proofs.Lifts.{session_lifted, told, read_free, read_quiet, wrote}
 use Rattle.ag_group.proofs.group.Group.read.Goals as goal
 
 pub returns-clause-answer : goal.returns-clause-answer
-returns-clause-answer c =
-    let g : Group = the_view c.self.inside in
+returns-clause-answer g c =
+    let inside = c.self.inside in
+    let group : Group = group_of inside.config inside.nodes.items inside.links.items inside.register inside.tokens.items in
+    let same : group ≡ c.args.self.now.group = ap (λ (v : GroupView). v.group) c.self.view_is in
     let seen : Token = c.token_or_none-token.result in
-    let within : c.args.n < length c.self.inside.nodes.items = omega (arith, c.self.invariant.each, c.requires.node, ap (λ (g : Group). length g.config.modes) c.self.view_is) in
+    let within : c.args.n < length (replicas_of c.self.inside.nodes.items) = omega (arith, count_is c.self.inside.nodes.items, c.self.invariant.each, c.requires.node, ap (λ (g : Group). length g.config.modes) same) in
     let place : c.args.s < length c.self.inside.tokens.items = omega (arith, c.self.invariant.tokens, c.requires.session) in
-    let at_s : c.index-old.result.now ≡ get_or g.tokens c.args.s None = get_or_read g.tokens c.args.s c.index-old.result.now place (c.index-old.ensures ∙ ap (λ (k : ℕ). get_or g.tokens k c.index-old.result.now) c.from.ensures) None in
-    let seen_is : seen ≡ token g c.args.s = c.token_or_none-token.ensures ∙ ap token_or_none at_s in
-    told (λ h r. read_part h r seen c.args.key) (read_free seen c.args.key) g c.args.self.now c.args.n c.from-2.result c.site-site.result c.index-node.result.now c.in_ok-answer.answer within
-    c.site-site.ensures.number (c.site-site.ensures.pages ∙ ap (λ (g : Group). g.config.pages) (sym c.self.view_is)) (c.site-site.ensures.store ∙ ap (λ (g : Group). g.register) (sym c.self.view_is)) c.from-2.ensures c.index-node.ensures c.in_ok-answer.ensures.answer c.self.view_is
-    ∙ (λ i. (read_part (here c.args.self.now c.args.n) (replica c.args.self.now c.args.n) ((seen_is ∙ ap (λ (g : Group). token g c.args.s) c.self.view_is) i) c.args.key).answer)
+    let at_s : c.index-old.result.now ≡ get_or group.tokens c.args.s None = get_or_read group.tokens c.args.s c.index-old.result.now place (c.index-old.ensures ∙ ap (λ (k : ℕ). get_or group.tokens k c.index-old.result.now) c.from.ensures) None in
+    let seen_is : seen ≡ token group c.args.s = c.token_or_none-token.ensures ∙ ap token_or_none at_s in
+    told (λ h r. read_part h r seen c.args.key) (read_free seen c.args.key) group c.args.self.now.group c.args.n c.from-2.result c.site-site.result c.index-node.result.now.replica c.in_ok-answer.answer within
+    c.site-site.ensures.number (c.site-site.ensures.pages ∙ ap (λ (g : Group). g.config.pages) (sym same)) (c.site-site.ensures.store ∙ ap (λ (g : Group). g.register) (sym same)) c.from-2.ensures (node_read c.self.inside.nodes.items c.from-2.result c.index-node.result.now c.index-node.ensures) c.in_ok-answer.ensures.answer same
+    ∙ (λ i. (read_part (here c.args.self.now.group c.args.n) (replica c.args.self.now.group c.args.n) ((seen_is ∙ ap (λ (g : Group). token g c.args.s) same) i) c.args.key).answer)
 
 pub returns-clause-after : goal.returns-clause-after
-returns-clause-after c =
-    let g : Group = the_view c.self.inside in
+returns-clause-after g c =
+    let inside = c.self.inside in
+    let group : Group = group_of inside.config inside.nodes.items inside.links.items inside.register inside.tokens.items in
+    let same : group ≡ c.args.self.now.group = ap (λ (v : GroupView). v.group) c.self.view_is in
     let seen : Token = c.token_or_none-token.result in
-    let within : c.args.n < length c.self.inside.nodes.items = omega (arith, c.self.invariant.each, c.requires.node, ap (λ (g : Group). length g.config.modes) c.self.view_is) in
+    let within : c.args.n < length (replicas_of c.self.inside.nodes.items) = omega (arith, count_is c.self.inside.nodes.items, c.self.invariant.each, c.requires.node, ap (λ (g : Group). length g.config.modes) same) in
     let place : c.args.s < length c.self.inside.tokens.items = omega (arith, c.self.invariant.tokens, c.requires.session) in
-    let at_s : c.index-old.result.now ≡ get_or g.tokens c.args.s None = get_or_read g.tokens c.args.s c.index-old.result.now place (c.index-old.ensures ∙ ap (λ (k : ℕ). get_or g.tokens k c.index-old.result.now) c.from.ensures) None in
-    let seen_is : seen ≡ token g c.args.s = c.token_or_none-token.ensures ∙ ap token_or_none at_s in
-    session_lifted (λ h r. read_part h r seen c.args.key) (read_free seen c.args.key) (read_quiet seen c.args.key) g c.args.self.now c.args.n c.from-2.result c.args.s c.from-3.result c.site-site.result c.index-node.result.now c.index-old.result.now c.token_after.result c.in_ok-answer.answer c.term-term.result within
-    c.site-site.ensures.number (c.site-site.ensures.pages ∙ ap (λ (g : Group). g.config.pages) (sym c.self.view_is)) (c.site-site.ensures.store ∙ ap (λ (g : Group). g.register) (sym c.self.view_is)) c.from-2.ensures c.index-node.ensures
-    c.in_ok-answer.ensures.left c.in_ok-answer.ensures.answer at_s c.term-term.ensures c.token_after.ensures c.from-3.ensures c.self.view_is
-    ∙ (λ i. (at_session c.args.self.now c.args.n c.args.s (read_part (here c.args.self.now c.args.n) (replica c.args.self.now c.args.n) ((seen_is ∙ ap (λ (g : Group). token g c.args.s) c.self.view_is) i) c.args.key)).after)
+    let at_s : c.index-old.result.now ≡ get_or group.tokens c.args.s None = get_or_read group.tokens c.args.s c.index-old.result.now place (c.index-old.ensures ∙ ap (λ (k : ℕ). get_or group.tokens k c.index-old.result.now) c.from.ensures) None in
+    let seen_is : seen ≡ token group c.args.s = c.token_or_none-token.ensures ∙ ap token_or_none at_s in
+    session_lifted (λ h r. read_part h r seen c.args.key) (read_free seen c.args.key) (read_quiet seen c.args.key) group c.args.self.now.group c.args.n c.from-2.result c.args.s c.from-3.result c.site-site.result c.index-node.result.now.replica c.index-old.result.now c.token_after.result c.in_ok-answer.answer c.term-term.result within
+    c.site-site.ensures.number (c.site-site.ensures.pages ∙ ap (λ (g : Group). g.config.pages) (sym same)) (c.site-site.ensures.store ∙ ap (λ (g : Group). g.register) (sym same)) c.from-2.ensures (node_read c.self.inside.nodes.items c.from-2.result c.index-node.result.now c.index-node.ensures)
+    c.in_ok-answer.ensures.left c.in_ok-answer.ensures.answer at_s c.term-term.ensures c.token_after.ensures c.from-3.ensures same
+    ∙ (λ i. (at_session c.args.self.now.group c.args.n c.args.s (read_part (here c.args.self.now.group c.args.n) (replica c.args.self.now.group c.args.n) ((seen_is ∙ ap (λ (g : Group). token g c.args.s) same) i) c.args.key)).after)
 
 pub returns-clause-writes : goal.returns-clause-writes
-returns-clause-writes c =
-    let g : Group = the_view c.self.inside in
+returns-clause-writes g c =
+    let inside = c.self.inside in
+    let group : Group = group_of inside.config inside.nodes.items inside.links.items inside.register inside.tokens.items in
+    let same : group ≡ c.args.self.now.group = ap (λ (v : GroupView). v.group) c.self.view_is in
     let seen : Token = c.token_or_none-token.result in
-    let within : c.args.n < length c.self.inside.nodes.items = omega (arith, c.self.invariant.each, c.requires.node, ap (λ (g : Group). length g.config.modes) c.self.view_is) in
+    let within : c.args.n < length (replicas_of c.self.inside.nodes.items) = omega (arith, count_is c.self.inside.nodes.items, c.self.invariant.each, c.requires.node, ap (λ (g : Group). length g.config.modes) same) in
     let place : c.args.s < length c.self.inside.tokens.items = omega (arith, c.self.invariant.tokens, c.requires.session) in
-    let at_s : c.index-old.result.now ≡ get_or g.tokens c.args.s None = get_or_read g.tokens c.args.s c.index-old.result.now place (c.index-old.ensures ∙ ap (λ (k : ℕ). get_or g.tokens k c.index-old.result.now) c.from.ensures) None in
-    let seen_is : seen ≡ token g c.args.s = c.token_or_none-token.ensures ∙ ap token_or_none at_s in
-    let none : (read_part (here c.args.self.now c.args.n) (replica c.args.self.now c.args.n) seen c.args.key).writes ≡ [] = wrote (λ h r. read_part h r seen c.args.key) (read_free seen c.args.key) g c.args.self.now c.args.n c.from-2.result c.site-site.result c.index-node.result.now within
-    c.site-site.ensures.number (c.site-site.ensures.pages ∙ ap (λ (g : Group). g.config.pages) (sym c.self.view_is)) (c.site-site.ensures.store ∙ ap (λ (g : Group). g.register) (sym c.self.view_is)) c.from-2.ensures c.index-node.ensures c.in_ok-answer.ensures.writes c.self.view_is in
-    subst (λ (t : Token). (read_part (here c.args.self.now c.args.n) (replica c.args.self.now c.args.n) t c.args.key).writes ≡ []) (seen_is ∙ ap (λ (g : Group). token g c.args.s) c.self.view_is) none
+    let at_s : c.index-old.result.now ≡ get_or group.tokens c.args.s None = get_or_read group.tokens c.args.s c.index-old.result.now place (c.index-old.ensures ∙ ap (λ (k : ℕ). get_or group.tokens k c.index-old.result.now) c.from.ensures) None in
+    let seen_is : seen ≡ token group c.args.s = c.token_or_none-token.ensures ∙ ap token_or_none at_s in
+    let none : (read_part (here c.args.self.now.group c.args.n) (replica c.args.self.now.group c.args.n) seen c.args.key).writes ≡ [] = wrote (λ h r. read_part h r seen c.args.key) (read_free seen c.args.key) group c.args.self.now.group c.args.n c.from-2.result c.site-site.result c.index-node.result.now.replica within
+    c.site-site.ensures.number (c.site-site.ensures.pages ∙ ap (λ (g : Group). g.config.pages) (sym same)) (c.site-site.ensures.store ∙ ap (λ (g : Group). g.register) (sym same)) c.from-2.ensures (node_read c.self.inside.nodes.items c.from-2.result c.index-node.result.now c.index-node.ensures) c.in_ok-answer.ensures.writes same in
+    subst (λ (t : Token). (read_part (here c.args.self.now.group c.args.n) (replica c.args.self.now.group c.args.n) t c.args.key).writes ≡ []) (seen_is ∙ ap (λ (g : Group). token g c.args.s) same) none
+
+pub read-requires : goal.read-requires
+read-requires g c =
+    let inside = c.self.inside in
+    let within : c.from-2.result < length inside.nodes.items = omega (arith, c.self.invariant.each, c.requires.node, c.from-2.ensures, ap (λ (v : GroupView). length v.group.config.modes) c.self.view_is) in
+    record { pages = c.site-site.ensures.pages ∙ ap (λ (v : GroupView). v.group.config.pages) (sym c.self.view_is) ∙ sym (pages_at inside.config inside.nodes.items inside.links.items inside.register (length inside.tokens.items) c.self.invariant c.from-2.result c.index-node.result.now within c.index-node.ensures) }

@@ -11,8 +11,8 @@ use Rattle.ag_node.proofs.Cutting.{cut_at_block}
 use Rattle.ag_node.proofs.node.Node.block.Goals as goal
 
 pub returns-in-Stop-clause-answer : goal.returns-in-Stop-clause-answer
-returns-in-Stop-clause-answer c =
-    let r = c.args.self.now in
+returns-in-Stop-clause-answer g c =
+    let r = c.args.self.now.replica in
     let site = c.args.site.now in
     let b = c.args.block.now in
     let whole = block_part (here_at site) c.args.from r c.args.full c.args.term b in

@@ -1,0 +1,6 @@
+-- The replica that is seen of a node.
+use Rattle.std.proofs.Common.{◌≡◌, ap}
+use Rattle.ag_node.specs.Seen.{NodeView}
+
+pub replica_is : {v w : NodeView} → v ≡ w → v.replica ≡ w.replica
+replica_is e = ap (λ (x : NodeView). x.replica) e
