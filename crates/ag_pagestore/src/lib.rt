@@ -11,7 +11,7 @@ mod store;
 
 pub use batch::{PageWrite, write_batch};
 pub use fault::{PageReadFault, PageWriteFault};
-pub use reading::read;
+pub use reading::{read, read_cells};
 pub use store::PageStore;
 
 #[cfg(test)]

@@ -3,9 +3,10 @@ ghost use Rattle.std.specs.Prelude.{◌≡◌, ◌≤◌, ◌+◌, ◌*◌, ◌�
 ghost use Rattle.ag_page.specs.Home.{with_page};
 ghost use Rattle.ag_pagestore.specs.Places.{IsPage};
 
-use super::{PageReadFault, PageStore, PageWrite, PageWriteFault, read, write_batch};
+use super::{PageReadFault, PageStore, PageWrite, PageWriteFault, read, read_cells, write_batch};
+use ag_model::answer::Cell;
 use ag_model::value::{Change, PageValue, Value, Version, VersionList};
-use ag_outside::disk::{Disk, Found};
+use ag_outside::disk::{Disk, DiskError, Found};
 use ag_outside::mem_disk::MemDisk;
 use ag_outside::order::Arm;
 use ag_outside::scripted::Scripted;
@@ -222,6 +223,25 @@ fn a_lost_page_is_unreadable_until_it_is_written(rt: HostRuntime) -> Result<(), 
     assert_eq!(rt; read(&mut disk, 21, &mut into), Ok(()));
     assert_eq!(rt; write_batch(&mut disk, &[page_write(21, 4)]), Ok(()));
     assert_eq!(rt; marks(&mut disk, 21), [Some(1); 16]);
+    Ok(())
+}
+
+#[test]
+fn cells_tell_marks_and_lost_sectors(rt: HostRuntime) -> Result<(), Fail> {
+    let alloc = rt.alloc();
+    let mut disk = fresh(alloc);
+    // Page 21 has sectors 400 to 415.
+    assert_eq!(rt; write_batch(&mut disk, &[page_write(21, 5)]), Ok(()));
+    assert_eq!(rt; disk.poke(404, &[7; 512]), Ok(()));
+    assert_eq!(rt; disk.lose(415, 1), Ok(()));
+    let mut want = [Cell::Mark(1); 16];
+    want[4] = Cell::Mark(7);
+    want[15] = Cell::Lost;
+    assert_eq!(rt; read_cells(&mut disk, 21), Ok(want));
+    assert_eq!(rt; read_cells(&mut disk, 22), Ok([Cell::Mark(0); 16]));
+    let mut failing = MemDisk::new(alloc, Vec::from_slice(alloc, &[16])?, false);
+    assert_eq!(rt; read_cells(&mut failing, 21), Err(DiskError::Failed));
+    assert_eq!(rt; read_cells(&mut failing, 21), Ok([Cell::Mark(0); 16]));
     Ok(())
 }
 

@@ -122,6 +122,14 @@ impl<H> Stripe<H> {
         self.applied
     }
 
+    /// Whether a page was changed since its image was written.
+    pub fn is_dirty(&self, page: u16) -> bool
+        requires { is_own self.now.table page ≡ true }
+        ensures { result ≡ is_dirty self.now.table page }
+    {
+        self.table.is_dirty(page)
+    }
+
     /// The dirty pages: those that redo touched since their images were written.
     pub fn dirty(&self) -> PageSet
         ensures { result ≡ dirty_pages self.now.table }

@@ -2,7 +2,7 @@
 ghost use Rattle.std.specs.Prelude.{◌≡◌, ◌<◌, ◌≤◌, ℕ, ◌==◌, ◌&&◌, ◌/◌, ◌-◌, true, false, length, replicate, if◌then◌else◌, Some, None, IfOk, OnOk, IfErr};
 ghost use Rattle.ag_model.specs.PageSets.{pages_where};
 ghost use Rattle.ag_model.specs.Rows.{touches};
-ghost use Rattle.ag_stripe.specs.Tables.{is_own, empty_slot, slot_of, is_dirty_at, dirty_pages, IsSameTable};
+ghost use Rattle.ag_stripe.specs.Tables.{is_own, empty_slot, slot_of, is_dirty, is_dirty_at, dirty_pages, IsSameTable};
 ghost use Rattle.ag_stripe.specs.Redo.{IsKept, OnlyEdits, redone_slot, IsRefusal};
 
 use crate::fault::StripeFault;
@@ -144,6 +144,14 @@ impl PageTable {
         ensures cleaned { (q : ℕ) → slot_of self.new q ≡ (if q == page then record { value = (slot_of self.old page).value; dirty = false } else slot_of self.old q) }
     {
         self.slots[place_of(page)].dirty = false;
+    }
+
+    /// Whether a page was changed since its image was written.
+    pub(crate) fn is_dirty(&self, page: u16) -> bool
+        requires { is_own self.now page ≡ true }
+        ensures { result ≡ is_dirty self.now page }
+    {
+        self.slots[place_of(page)].dirty
     }
 
     /// The dirty pages.

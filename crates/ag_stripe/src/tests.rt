@@ -494,12 +494,16 @@ fn a_page_is_clean_once_its_image_is_written(rt: HostRuntime) -> Result<(), Fail
     let alloc = rt.alloc();
     let mut disk = fresh(alloc);
     let mut stripe = new(alloc, PAGES)?.lend(PageStore::new(&mut disk));
+    if stripe.table.owns(37) {
+        assert!(rt; !stripe.is_dirty(37));
+    }
     for block in &blocks(alloc)? {
         assert!(rt; apply(&mut stripe, block).is_ok());
     }
     let (mut stripe, _store) = stripe.take_back();
     assert!(rt; stripe.dirty().has(21) && stripe.dirty().has(37));
     if stripe.table.owns(37) {
+        assert!(rt; stripe.is_dirty(37));
         stripe.cleaned(37);
     }
     assert!(rt; stripe.dirty().has(21) && !stripe.dirty().has(37));
