@@ -1,1 +1,2 @@
 pub mod ProperRecords
+pub mod Reached
