@@ -1,0 +1,15 @@
+pub mod Asof
+pub mod Batches
+pub mod Batching
+pub mod Flushing
+pub mod Fresh
+pub mod Held
+pub mod Imaging
+pub mod Least
+pub mod Outcomes
+pub mod Redone
+pub mod Rounds
+pub mod Seats
+pub mod Sets
+pub mod Swaps
+pub mod Underway

@@ -1,0 +1,5 @@
+pub mod Views
+pub mod Reading
+pub mod Redo
+pub mod Flush
+pub mod Standing

@@ -1,0 +1,18 @@
+//! The data pages of a replica, in 16 stripes over the images on one disk.
+#![tactic(auto)]
+
+mod asking;
+mod flush;
+pub mod laws;
+mod lending;
+mod lent;
+mod pages;
+mod pending;
+mod places;
+mod redoing;
+
+pub use flush::FlushFault;
+pub use pages::Pages;
+
+#[cfg(test)]
+mod tests;
