@@ -1,0 +1,5 @@
+pub mod Images
+pub mod Views
+pub mod Standing
+pub mod Redoing
+pub mod Asking

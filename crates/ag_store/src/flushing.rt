@@ -1,0 +1,75 @@
+//! Flush.
+ghost use Rattle.std.specs.Prelude.{◌≡◌, ◌≤◌, true, false, Some, IfOk, OnOk, OnErr, IsErrOf};
+ghost use Rattle.ag_outside.specs.Counts.{HasRisen};
+ghost use Rattle.ag_outside.specs.Shown.{reads_of};
+ghost use Rattle.ag_rules.specs.Replica.{least};
+ghost use Rattle.ag_store.specs.Standing.{IsStore};
+ghost use Rattle.ag_store.specs.Views.{flushed_store, store_on};
+
+use crate::memory::Memory;
+use crate::redoing::fault_of_read;
+use crate::store::Store;
+use ag_kept::{KeptFault, save_redo_start};
+use ag_outside::disk::Disk;
+use ag_outside::order::Arm;
+use ag_outside::scripted::Scripted;
+use ag_pages::FlushFault;
+use ag_stripe::laws::have_images;
+
+/// Writes the dirty pages, and then the master with the least LSN to which a stripe was redone.
+fn flush_on<D: Disk>(
+    disk: &mut Scripted<D>,
+    pages: u16,
+    memory: Memory,
+) -> Result<Memory, KeptFault>
+    requires { IsStore D.size D.keeps D.reads D.may_hold disk.old pages (Some memory) true }
+    ensures lsn { IfOk result (λ m. m.redo ≡ least memory.pages.applied) }
+    ensures store { IfOk result (λ m. IsStore D.size D.keeps D.reads D.may_hold disk.new pages (Some m) true) }
+    ensures view { IfOk result (λ m. store_on (reads_of D.reads disk.new) pages (Some m) true 0 ≡ flushed_store (store_on (reads_of D.reads disk.old) pages (Some memory) true 0)) }
+    ensures later { OnOk result (D.faults disk.old.disk ≤ D.faults disk.new.disk) }
+    ensures fault { IsErrOf result KeptFault.DiskFault → HasRisen (D.faults disk.old.disk) (D.faults disk.new.disk) }
+    ensures size { D.size disk.new.disk ≡ D.size disk.old.disk }
+{
+    have_images();
+    let Memory { log, mut pages, .. } = memory;
+    disk.arm(Arm::Free);
+    match pages.flush(disk) {
+        Ok(()) => {
+            let redo = pages.least_applied();
+            save_redo_start(disk, redo)?;
+            Ok(Memory { log, pages, redo })
+        }
+        Err(FlushFault::Disk) => Err(fault_of_read(disk.why())),
+        Err(FlushFault::NoMemory) => Err(KeptFault::NoMemory),
+        Err(FlushFault::Unlawful { .. }) => unreachable!(),
+    }
+}
+
+impl<D: Disk> Store<D> {
+    /// Writes the dirty pages in rising order, by eights with a sync after each, and then the master, whose redo start is the
+    /// least LSN to which a stripe was redone. It answers that.
+    pub fn flush(&mut self) -> Result<u64, KeptFault>
+        requires sound { self.old.sound ≡ true }
+        requires up { self.old.kept.loaded ≡ true }
+        ensures lsn { IfOk result (λ lsn. lsn ≡ least self.old.applied) }
+        ensures store { OnOk result (self.new ≡ record (flushed_store self.old) { faults = self.new.faults }) }
+        ensures later { OnOk result (self.old.faults ≤ self.new.faults) }
+        ensures err { OnErr result (self.new.sound ≡ false) }
+        ensures fault { IsErrOf result KeptFault.DiskFault → HasRisen self.old.faults self.new.faults }
+    {
+        match self.memory.take() {
+            None => unreachable!(),
+            Some(memory) => match flush_on(&mut self.disk, self.pages, memory) {
+                Ok(memory) => {
+                    let lsn = memory.redo;
+                    self.memory = Some(memory);
+                    Ok(lsn)
+                }
+                Err(e) => {
+                    self.is_sound = false;
+                    Err(e)
+                }
+            },
+        }
+    }
+}
