@@ -219,11 +219,6 @@ module _ {D : Type 0} (size : D → ℕ) (keeps : D → Bool) (reads : D → Ima
 
   -- the same of a disk whose order was taken back
   module _ (old armed new : ScriptedView D) (is : armed ≡ ordered old Free) (none : old.unsynced ≡ []) (batches : List (List PageWrite)) where
-    pub armed_settles : Takes armed batches new → IsSettled keeps old new
-    armed_settles t =
-        let s = batches_settle batches (ordered old Free) new none refl (subst (λ (v : ScriptedView D). Takes v batches new) is t) in
-        record { unsynced = s.unsynced; keeps_same = s.keeps_same }
-
     pub armed_later : Takes armed batches new → faults old.disk ≤ faults new.disk
     armed_later t = batches_later batches (ordered old Free) new none refl (subst (λ (v : ScriptedView D). Takes v batches new) is t)
 

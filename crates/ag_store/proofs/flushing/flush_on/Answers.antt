@@ -25,8 +25,6 @@ use Rattle.ag_store.proofs.flushing.flush_on.Goals as goal
 pub flush-requires-clause-keeps : goal.flush-requires-clause-keeps
 flush-requires-clause-keeps g c =
     let d = g.D.Disk in
-    let old = c.args.disk.now in
-    let m : MemoryView = record { log = c.memory.inside.log; pages = c.memory.inside.pages; redo = c.memory.inside.redo } in
     subst (λ (v : ScriptedView _). IsTrue (d.keeps v.disk)) (sym c.arm.ensures) (c.requires.stands refl).modelled
 
 pub save_redo_start-requires-clause-home : goal.save_redo_start-requires-clause-home
@@ -80,7 +78,6 @@ returns-in-Err-Disk-clause-fault g c =
     let old = c.args.disk.now in
     let mid = c.flush.new.disk in
     let m : MemoryView = record { log = c.memory.inside.log; pages = c.memory.inside.pages; redo = c.memory.inside.redo } in
-    let has : Some c.args.memory ≡ Some m = ap (λ (v : MemoryView). Some v) (sym c.memory.view_is) in
     λ e. armed_breaks d.size d.keeps d.reads d.may_hold d.faults old c.arm.new.self mid c.arm.ensures (c.requires.stands refl).unsynced (batches m.pages) (c.flush.ensures.broken (c.in-Err-Disk.is ∙ ap (λ x. Err x) c.in-Err-Disk.field-0-is)) (sym c.why.ensures ∙ c.fault_of_read.ensures (fault-in {T = MemoryView} c.fault_of_read.result DiskFault e))
 
 pub returns-in-Ok-clause-later : goal.returns-in-Ok-clause-later

@@ -50,7 +50,6 @@ loop-stripe-preserved g c =
     let inv = c.loop-stripe.invariant in
     let did = c.in_ok-redo_stripe.ensures in
     let old = c.args.pages.now in
-    let image = reads_of d.reads c.args.disk.now in
     let one : IsRedone (reads_of d.reads c.args.disk.now) c.args.log.now c.loop-stripe.stripe (end_of c.args.log.now) c.loop-stripe.pages c.redo_stripe.new.pages
     = subst (λ (n : ℕ). IsRedone (reads_of d.reads c.args.disk.now) c.args.log.now c.loop-stripe.stripe n c.loop-stripe.pages c.redo_stripe.new.pages) c.end-end.ensures
     (subst (λ (i : Image). IsRedone i c.args.log.now c.loop-stripe.stripe c.end-end.result c.loop-stripe.pages c.redo_stripe.new.pages) inv.shows.content did.pages) in

@@ -13,7 +13,6 @@ use Rattle.ag_store.proofs.starting.load_pages.Goals as goal
 
 pub redo_to_end-requires-clause-keeps : goal.redo_to_end-requires-clause-keeps
 redo_to_end-requires-clause-keeps g c =
-    let d = g.D.Disk in
     (c.requires.store.stands refl).modelled
 
 pub redo_to_end-requires-clause-proper : goal.redo_to_end-requires-clause-proper

@@ -24,11 +24,7 @@ start_on-requires-clause-home g c =
 
 pub start_on-requires-clause-small : goal.start_on-requires-clause-small
 start_on-requires-clause-small g c =
-    let d = g.D.Disk in
-    let old = c.args.disk.now in
-    let mid = c.read_master.new.disk in
     let same = c.in_ok-master.ensures.same in
-    let store = read_store d.size d.keeps d.reads d.may_hold c.args.pages old mid c.requires.store same c.in_ok-master.ensures.settled c.read_master.ensures.size in
     subst (λ (i : Image). (master_on i).incarnation + 1 < 2 ^ 64) (sym same) c.requires.small
 
 pub load_pages-requires-clause-store : goal.load_pages-requires-clause-store
@@ -48,29 +44,17 @@ load_pages-requires-clause-store g c =
 pub load_pages-requires-clause-redo : goal.load_pages-requires-clause-redo
 load_pages-requires-clause-redo g c =
     let d = g.D.Disk in
-    let old = c.args.disk.now in
     let mid = c.read_master.new.disk in
     let same = c.in_ok-master.ensures.same in
-    let store = read_store d.size d.keeps d.reads d.may_hold c.args.pages old mid c.requires.store same c.in_ok-master.ensures.settled c.read_master.ensures.size in
-    let new = c.start_on.new.disk in
     let did = c.in_ok-started.ensures in
     let x = c.in_ok-started.started in
-    let moved = moved_store d.size d.keeps d.reads d.may_hold c.args.pages mid new store did.home did.pages c.start_on.ensures.size
-    (ap (λ (k : Kept). k.log) did.kept ∙ started-log (kept_on (reads_of d.reads mid) false) x.0) (ap (λ (k : Kept). k.redo) did.kept ∙ started-redo (kept_on (reads_of d.reads mid) false) x.0) in
     ap (λ (m : Master). m.redo) c.in_ok-master.ensures.master ∙ ap (λ (i : Image). (master_on i).redo) (sym same) ∙ sym (ap (λ (k : Kept). k.redo) did.kept ∙ started-redo (kept_on (reads_of d.reads mid) false) x.0)
 
 pub load_pages-requires-clause-log : goal.load_pages-requires-clause-log
 load_pages-requires-clause-log g c =
     let d = g.D.Disk in
-    let old = c.args.disk.now in
-    let mid = c.read_master.new.disk in
-    let same = c.in_ok-master.ensures.same in
-    let store = read_store d.size d.keeps d.reads d.may_hold c.args.pages old mid c.requires.store same c.in_ok-master.ensures.settled c.read_master.ensures.size in
     let new = c.start_on.new.disk in
     let did = c.in_ok-started.ensures in
-    let x = c.in_ok-started.started in
-    let moved = moved_store d.size d.keeps d.reads d.may_hold c.args.pages mid new store did.home did.pages c.start_on.ensures.size
-    (ap (λ (k : Kept). k.log) did.kept ∙ started-log (kept_on (reads_of d.reads mid) false) x.0) (ap (λ (k : Kept). k.redo) did.kept ∙ started-redo (kept_on (reads_of d.reads mid) false) x.0) in
     subst (λ (o : Option LogView). MatchOption o (Unit {0}) (IsMemory d.keeps d.reads d.may_hold new)) c.in-Some.is did.memory
 
 pub returns-in_ok-memory-in-Some-clause-view : goal.returns-in_ok-memory-in-Some-clause-view
@@ -83,8 +67,6 @@ returns-in_ok-memory-in-Some-clause-view g c =
     let new = c.start_on.new.disk in
     let did = c.in_ok-started.ensures in
     let x = c.in_ok-started.started in
-    let moved = moved_store d.size d.keeps d.reads d.may_hold c.args.pages mid new store did.home did.pages c.start_on.ensures.size
-    (ap (λ (k : Kept). k.log) did.kept ∙ started-log (kept_on (reads_of d.reads mid) false) x.0) (ap (λ (k : Kept). k.redo) did.kept ∙ started-redo (kept_on (reads_of d.reads mid) false) x.0) in
     let end : x.0 ≡ End = started-loaded (kept_on (reads_of d.reads mid) false) x.0 refl (sym (ap (λ (k : Kept). k.loaded) did.kept) ∙ ap (λ (o : Option LogView). is_some o) c.in-Some.is) in
     let kept : kept_on (reads_of d.reads new) true ≡ started (kept_on (reads_of d.reads mid) false) End = ap (λ (o : Option LogView). kept_on (reads_of d.reads new) (is_some o)) (sym c.in-Some.is) ∙ did.kept ∙ ap (started (kept_on (reads_of d.reads mid) false)) end in
     c.in_ok-memory-in-Some.ensures.view
@@ -116,8 +98,6 @@ returns-in-None-clause-view g c =
     let new = c.start_on.new.disk in
     let did = c.in_ok-started.ensures in
     let x = c.in_ok-started.started in
-    let moved = moved_store d.size d.keeps d.reads d.may_hold c.args.pages mid new store did.home did.pages c.start_on.ensures.size
-    (ap (λ (k : Kept). k.log) did.kept ∙ started-log (kept_on (reads_of d.reads mid) false) x.0) (ap (λ (k : Kept). k.redo) did.kept ∙ started-redo (kept_on (reads_of d.reads mid) false) x.0) in
     let kept : kept_on (reads_of d.reads new) false ≡ started (kept_on (reads_of d.reads mid) false) x.0 = ap (λ (o : Option LogView). kept_on (reads_of d.reads new) (is_some o)) (sym c.in-None.is) ∙ did.kept in
     seen-stopped d.size d.keeps d.reads d.may_hold c.args.pages mid new x.0 store.high did.pages kept (λ e. absurd (cc (ap (λ (k : Kept). k.loaded) kept ∙ ap (λ (r : Reach). (started (kept_on (reads_of d.reads mid) false) r).loaded) e)))
     ∙ ap (λ (i : Image). started_store (store_on i c.args.pages None true 0) x.0) same

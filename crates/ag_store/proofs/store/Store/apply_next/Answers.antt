@@ -19,10 +19,7 @@ use Rattle.ag_store.proofs.store.Store.apply_next.Goals as goal
 
 pub redo_stripe-requires-clause-keeps : goal.redo_stripe-requires-clause-keeps
 redo_stripe-requires-clause-keeps g c =
-    let d = g.D.Disk in
     let i = c.self.inside in
-    let m : MemoryView = record { log = c.memory.inside.log; pages = c.memory.inside.pages; redo = c.memory.inside.redo } in
-    let has : i.memory ≡ Some m = sym c.take.ensures.value ∙ c.in-Some.is ∙ ap (λ (v : MemoryView). Some v) (sym c.memory.view_is) in
     let sound : i.is_sound ≡ true = ap (λ (v : StoreView). v.sound) c.self.view_is ∙ c.requires.sound in
     (c.self.invariant.stands sound).modelled
 
@@ -57,11 +54,6 @@ redo_stripe-requires-clause-within g c =
 
 pub redo_stripe-requires-clause-from : goal.redo_stripe-requires-clause-from
 redo_stripe-requires-clause-from g c =
-    let d = g.D.Disk in
-    let i = c.self.inside in
-    let m : MemoryView = record { log = c.memory.inside.log; pages = c.memory.inside.pages; redo = c.memory.inside.redo } in
-    let has : i.memory ≡ Some m = sym c.take.ensures.value ∙ c.in-Some.is ∙ ap (λ (v : MemoryView). Some v) (sym c.memory.view_is) in
-    let sound : i.is_sound ≡ true = ap (λ (v : StoreView). v.sound) c.self.view_is ∙ c.requires.sound in
     omega (arith, c.end_after-end.ensures.least, c.applied-from.ensures)
 
 pub redo_stripe-requires-clause-ahead : goal.redo_stripe-requires-clause-ahead

@@ -19,7 +19,6 @@ pub invariant_of-self : goal.invariant_of-self
 invariant_of-self g c =
     let d = g.D.Disk in
     let i = c.self.inside in
-    let has : i.memory ≡ Some c.in-Some.memory = sym c.take.ensures.value ∙ c.in-Some.is in
     let sound : i.is_sound ≡ true = ap (λ (v : StoreView). v.sound) c.self.view_is ∙ c.requires.sound in
     subst (λ (b : Bool). IsStore d.size d.keeps d.reads d.may_hold c.flush_on.new.disk i.pages (Some c.in-Ok.memory) b) (sym sound) c.in-Ok.ensures.store
 
@@ -28,7 +27,6 @@ returns-in-Ok-clause-lsn g c =
     let d = g.D.Disk in
     let i = c.self.inside in
     let has : i.memory ≡ Some c.in-Some.memory = sym c.take.ensures.value ∙ c.in-Some.is in
-    let sound : i.is_sound ≡ true = ap (λ (v : StoreView). v.sound) c.self.view_is ∙ c.requires.sound in
     ap (λ (v : MemoryView). v.redo) c.memory.view_is ∙ c.in-Ok.ensures.lsn ∙ sym (ap (λ (o : Option MemoryView). least (store_on (reads_of d.reads i.disk) i.pages o i.is_sound 0).applied) has) ∙ ap (λ (v : StoreView). least v.applied) c.self.view_is
 
 pub returns-in-Ok-clause-store : goal.returns-in-Ok-clause-store

@@ -1,4 +1,4 @@
-use Rattle.std.proofs.Common.{◌≡◌, Some, true, sym, ap, ◌∙◌}
+use Rattle.std.proofs.Common.{◌≡◌, Some, sym, ap, ◌∙◌}
 use Rattle.std.specs.Prelude.{Option}
 use Rattle.ag_rules.specs.Replica.{least}
 use Rattle.ag_outside.specs.Shown.{reads_of}
@@ -11,5 +11,4 @@ returns g c =
     let i = c.self.inside in
     let m : MemoryView = record { log = c.memory.inside.log; pages = c.memory.inside.pages; redo = c.memory.inside.redo } in
     let has : i.memory ≡ Some m = c.in-Some.is ∙ ap (λ (v : MemoryView). Some v) (sym c.memory.view_is) in
-    let sound : i.is_sound ≡ true = ap (λ (v : StoreView). v.sound) c.self.view_is ∙ c.requires.sound in
     c.least_applied.ensures ∙ ap (λ (v : StoreView). least v.applied) (ap (λ (o : Option MemoryView). store_on (reads_of d.reads i.disk) i.pages o i.is_sound (d.faults i.disk.disk)) (sym has) ∙ c.self.view_is)

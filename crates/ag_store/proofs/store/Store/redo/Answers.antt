@@ -20,10 +20,7 @@ use Rattle.ag_store.proofs.store.Store.redo.Goals as goal
 
 pub redo_to_end-requires-clause-keeps : goal.redo_to_end-requires-clause-keeps
 redo_to_end-requires-clause-keeps g c =
-    let d = g.D.Disk in
     let i = c.self.inside in
-    let m : MemoryView = record { log = c.memory.inside.log; pages = c.memory.inside.pages; redo = c.memory.inside.redo } in
-    let has : i.memory ≡ Some m = sym c.take.ensures.value ∙ c.in-Some.is ∙ ap (λ (v : MemoryView). Some v) (sym c.memory.view_is) in
     let sound : i.is_sound ≡ true = ap (λ (v : StoreView). v.sound) c.self.view_is ∙ c.requires.sound in
     (c.self.invariant.stands sound).modelled
 

@@ -16,10 +16,6 @@ start_whole-requires-clause-store g c =
 
 pub start_whole-requires-clause-small : goal.start_whole-requires-clause-small
 start_whole-requires-clause-small g c =
-    let d = g.D.Disk in
-    let i = c.self.inside in
-    let sound : i.is_sound ≡ true = ap (λ (v : StoreView). v.sound) c.self.view_is ∙ c.requires.sound in
-    let none : i.memory ≡ None = none-of i.memory (ap (λ (v : StoreView). v.kept.loaded) c.self.view_is ∙ c.requires.down) in
     subst (λ (v : StoreView). v.kept.incarnation + 1 < 2 ^ 64) (sym c.self.view_is) c.requires.small
 
 pub invariant_of-self : goal.invariant_of-self
@@ -27,7 +23,6 @@ invariant_of-self g c =
     let d = g.D.Disk in
     let i = c.self.inside in
     let sound : i.is_sound ≡ true = ap (λ (v : StoreView). v.sound) c.self.view_is ∙ c.requires.sound in
-    let none : i.memory ≡ None = none-of i.memory (ap (λ (v : StoreView). v.kept.loaded) c.self.view_is ∙ c.requires.down) in
     subst (λ (b : Bool). IsStore d.size d.keeps d.reads d.may_hold c.start_whole.new.disk i.pages c.in-Ok.memory b) (sym sound) c.in-Ok.ensures.store
 
 pub returns-in-Ok-clause-store : goal.returns-in-Ok-clause-store
