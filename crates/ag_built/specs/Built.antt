@@ -5,7 +5,8 @@ use Rattle.ag_model.specs.declared.event.Who.{Who}
 use Rattle.ag_model.specs.declared.event.Who.TheVariants.{Letter, Primary}
 use Rattle.ag_model.specs.declared.event.Pair.{Pair}
 use Rattle.ag_model.specs.declared.event.Event.{Event}
-use Rattle.ag_model.specs.declared.event.Event.TheVariants.{Set, Harden, Send, Deliver, Repeat, Lose, Apply, Raise, Redo, Read, Crash, Start, Status}
+use Rattle.ag_model.specs.declared.event.Event.TheVariants.{Set, Harden, Send, Deliver, Repeat, Lose, Apply, Raise, Redo, Read, Flush, Crash, Start, Page, Sectors, Status}
+use Rattle.ag_model.specs.declared.event.Suffix.TheVariants.{Whole}
 use Rattle.ag_model.specs.declared.message.Message.{Message}
 use Rattle.ag_model.specs.declared.message.Body.{Body}
 use Rattle.ag_model.specs.declared.message.Body.TheVariants.{Block, Ack}
@@ -18,7 +19,8 @@ abbrev pub IsLetter : Who → Type 0
 IsLetter (Letter n) = Unit {0}
 IsLetter Primary = ⊥
 
--- the events of whole transactions, of links, of redo, and of crash and start, for replicas by their letters, with any suffix
+-- the events of whole transactions, of links, of redo, of pages, and of crash and start, for replicas by their letters, with any
+-- suffix but for `flush`, which has none as yet
 abbrev pub IsBuilt : Event → Type 0
 IsBuilt (Set w pairs suffix) = IsLetter w
 IsBuilt (Harden w suffix) = IsLetter w
@@ -30,8 +32,11 @@ IsBuilt (Apply w x suffix) = IsLetter w
 IsBuilt (Raise w x suffix) = IsLetter w
 IsBuilt (Redo w suffix) = IsLetter w
 IsBuilt (Read w session key suffix) = IsLetter w
+IsBuilt (Flush w suffix) = IsLetter w × (suffix ≡ Whole)
 IsBuilt (Crash w suffix) = IsLetter w
 IsBuilt (Start w suffix) = IsLetter w
+IsBuilt (Page w p suffix) = IsLetter w
+IsBuilt (Sectors w p suffix) = IsLetter w
 IsBuilt (Status w suffix) = IsLetter w
 IsBuilt _ = ⊥
 

@@ -3,13 +3,13 @@ use Rattle.std.proofs.Common.{◌≡◌, ℕ, ◌+◌, length, refl, List, [], �
 use Rattle.std.specs.List.{AllByRecursion}
 use Rattle.std.proofs.lemmas.List.{length-append}
 use Rattle.ag_outside.specs.declared.mem_disk.MemDisk.{MemDisk}
-use Rattle.ag_outside.specs.Disks.{Image, or_zeros}
+use Rattle.ag_outside.specs.Disks.{Image}
 use Rattle.ag_outside.specs.MemDisks.{mem_reads, image_of_zeros}
 use Rattle.ag_group.specs.Blank.{IsBlankDisk}
 
 -- a disk in memory is blank at first
 pub mem_blank : (d : MemDisk) → mem_reads d ≡ image_of_zeros → IsBlankDisk 295232 true (mem_reads d)
-mem_blank d is = record { room = omega arith; told = refl; zeros = λ at. ap (λ (image : Image). or_zeros (image at)) is }
+mem_blank d is = record { room = omega arith; told = refl; zeros = λ at. ap (λ (image : Image). image at) is }
 
 pub all_more : {A : Type 0} (P : A → Type 0) (xs : List A) (x : A) → AllByRecursion P xs → P x → AllByRecursion P (xs ++ x ∷ [])
 all_more P [] y h p = (p, tt)

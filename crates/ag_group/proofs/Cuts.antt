@@ -1,9 +1,11 @@
 -- Plans that a suffix may cut.
-use Rattle.std.proofs.Common.{◌≡◌, ℕ, ◌+◌, ◌-◌, List, [], length, Bool, true, false, refl, sym, ap, ◌∙◌}
+use Rattle.std.proofs.Common.{◌≡◌, ℕ, ◌+◌, ◌-◌, List, [], length, Bool, true, false, refl, sym, ap, ◌∙◌, subst}
 use Rattle.std.specs.Prelude.{Option, Some, None, slice_get, max, nat_lt, not, ◌==◌, ◌||◌, if◌then◌else◌}
 use Rattle.std.specs.List.{sum_by}
 use Rattle.std.proofs.lemmas.List.{set-get_or}
 use Rattle.ag_model.specs.declared.event.Event.{Event}
+use Rattle.ag_model.specs.declared.event.Event.TheVariants.{Flush}
+use Rattle.ag_model.specs.declared.event.Who.{Who}
 use Rattle.ag_model.specs.declared.event.Suffix.{Suffix}
 use Rattle.ag_model.specs.declared.event.Suffix.TheVariants.{Whole, Stop, Fail}
 use Rattle.ag_model.specs.declared.answer.Answer.TheVariants.{No, Known}
@@ -18,7 +20,9 @@ use Rattle.ag_rules.specs.Plan.{Part, Plan, Batch, Here, here, at_node, at_once,
 use Rattle.ag_rules.specs.Cut.{cut, all_writes, stopped, stopped_disk, failed, disk_before}
 use Rattle.ag_rules.specs.AckMessage.{ack_message_part, checks_of_ack_message, known_peer}
 use Rattle.ag_rules.specs.DeliverEvent.{message_part, arrives, leaves, taken, delivered, plan_of_message, plan_of_deliver}
-use Rattle.ag_rules.specs.Next.{apart, plan_of, suffix_of, done}
+use Rattle.ag_rules.specs.FlushEvent.{flush_part}
+use Rattle.ag_rules.specs.Next.{named, apart, plan_of, suffix_of, done}
+use Rattle.ag_built.specs.Built.{IsBuilt}
 use Rattle.ag_node.specs.Suffixes.{cut_part, stopped_part, failed_part}
 use Rattle.ag_node.proofs.StartSteps.{not_below}
 use Rattle.ag_node.proofs.Cutting.{uncut as uncut_part}
@@ -38,6 +42,13 @@ uncut (Fail c) p e = else_plan (nat_lt (c - 1) (sum_by (λ b. length b + 1) p.wr
 pub uncut_done : (g : Group) (e : Event) → (plan_of g e).writes ≡ [] → done g e ≡ plan_of g e
 unfolding done
 uncut_done g e none = uncut (suffix_of e) (plan_of g e) none
+
+-- a `flush` that is built has no suffix
+pub flush_done : (g : Group) (e : Event) (w : Who) (suffix : Suffix) (n : ℕ) → e ≡ Flush w suffix → IsBuilt e → n ≡ named g w → done g e ≡ at_node g n (flush_part (here g n) (replica g n))
+unfolding done
+flush_done g e w suffix n is built at =
+    let whole : suffix_of e ≡ Whole = ap suffix_of is ∙ (subst (λ (x : Event). IsBuilt x) is built).1 in
+    ap (λ (s : Suffix). cut s (plan_of g e)) whole ∙ ap (plan_of g) is ∙ ap (λ (k : ℕ). at_node g k (flush_part (here g k) (replica g k))) (sym at)
 
 -- a node's part that is cut, as an event of the group
 pub cut_answer : (s : Suffix) (g : Group) (n : ℕ) (part : Part) → (cut s (at_node g n part)).answer ≡ (cut_part g.config.pages n s (replica g n) part).answer
@@ -103,7 +114,7 @@ refused_after : (g : Group) (n : ℕ) (why : Refusal) → (at_node g n (refused 
 refused_after g n why = λ i. record g { replicas = set-get_or g.replicas n nobody i }
 
 -- the delivery of what was found
-found_is : (g : Group) (n m i : ℕ) (repeats : Bool) (found : Option Message) → (n == m) ≡ false → slice_get (link g n m) (i - 1) ≡ found → apart g n m (plan_of_deliver g n m i repeats) ≡ plan_of_message g n m i repeats found
+pub found_is : (g : Group) (n m i : ℕ) (repeats : Bool) (found : Option Message) → (n == m) ≡ false → slice_get (link g n m) (i - 1) ≡ found → apart g n m (plan_of_deliver g n m i repeats) ≡ plan_of_message g n m i repeats found
 unfolding plan_of_deliver
 found_is g n m i repeats found two is = else_plan (n == m) (at_node g n (refused Nothing (replica g n))) (plan_of_deliver g n m i repeats) two ∙ ap (plan_of_message g n m i repeats) is
 
@@ -139,7 +150,7 @@ cut_out s pages n r part e = cut_quiet s (λ h r. part) (λ h r. e) (record { nu
 
 -- an Ack that comes to a node that is up
 
-message_up : (h : Here) (from : ℕ) (r : Replica) (full : Bool) (message : Message) (body : Body) → r.up ≡ true → message.body ≡ body → message_part h from r full message ≡ arrives h from r full message.term body
+pub message_up : (h : Here) (from : ℕ) (r : Replica) (full : Bool) (message : Message) (body : Body) → r.up ≡ true → message.body ≡ body → message_part h from r full message ≡ arrives h from r full message.term body
 message_up h from r full message body e is =
     ap (λ (b : Bool). if not b then refused (Down h.number) r else arrives h from r full message.term message.body) e ∙ ap (arrives h from r full message.term) is
 

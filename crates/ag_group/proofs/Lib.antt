@@ -5,6 +5,7 @@ pub mod Lifts
 pub mod Nodes
 pub mod LinkRows
 pub mod Openings
+pub mod ProperLogs
 pub mod Refused
 pub mod Runs
 pub mod Scenarios

@@ -10,11 +10,11 @@ use Rattle.ag_rules.specs.Replica.{Replica}
 use Rattle.ag_rules.specs.Group.{Group, replica, nobody, with_replica, link, is_full}
 use Rattle.ag_rules.specs.Plan.{Part, Plan, Posting, Here, Check, Case, here, at_node, posted, unless, first_case, refused, at_once}
 use Rattle.ag_rules.specs.Access.{access, cases_of_access}
-use Rattle.ag_model.specs.declared.answer.Answer.TheVariants.{Lsn, Crashed, Status}
+use Rattle.ag_model.specs.declared.answer.Answer.TheVariants.{Lsn, Crashed, Status, PageBad}
 use Rattle.ag_model.specs.declared.answer.Refusal.TheVariants.{Down, Nothing}
 use Rattle.ag_model.specs.declared.config.Mode.{Mode}
 use Rattle.ag_model.specs.Rows.{page_of, rows}
-use Rattle.ag_rules.specs.Replica.{end, fallen, front, full_end, effective, is_reverting, records, page_value, stripe}
+use Rattle.ag_rules.specs.Replica.{end, fallen, front, full_end, effective, is_bad, is_reverting, records, page_value, stripe}
 use Rattle.ag_rules.specs.Checks.{buffer_is_full}
 use Rattle.ag_rules.specs.BeginEvent.{checks_of_begin}
 use Rattle.ag_rules.specs.Redo.{due_pages, touched_up_to}
@@ -26,11 +26,12 @@ use Rattle.ag_rules.specs.RaiseEvent.{raise_part, raised, checks_of_raise}
 use Rattle.ag_rules.specs.ReadEvent.{read_part, reads_at, checks_of_read, row_answer, is_too_old}
 use Rattle.ag_rules.specs.CrashEvent.{crash_part}
 use Rattle.ag_rules.specs.StartEvent.{start_part, start_records, checks_of_start, starts, starts_reverting, starts_redoing, starts_first, starts_second, is_named}
-use Rattle.ag_rules.specs.LookEvent.{status_part, role_of, printed_state}
+use Rattle.ag_rules.specs.FlushEvent.{flush_part, flushes, pages_to_flush, checks_of_flush}
+use Rattle.ag_rules.specs.LookEvent.{page_part, page_answer, sectors_part, status_part, role_of, printed_state}
 use Rattle.ag_model.specs.declared.message.Message.{Message}
 use Rattle.ag_model.specs.declared.message.Body.{Body}
 use Rattle.ag_model.specs.declared.message.Body.TheVariants.{Block, Ack}
-use Rattle.ag_rules.specs.Checks.{is_down}
+use Rattle.ag_rules.specs.Checks.{is_down, reverts}
 use Rattle.ag_rules.specs.SendEvent.{send_part, sends, checks_of_send, block_to_send}
 use Rattle.ag_rules.specs.BlockMessage.{block_part}
 use Rattle.ag_rules.specs.DeliverEvent.{message_part, arrives, plan_of_lose, plan_of_loss}
@@ -162,22 +163,18 @@ unfolding read_part
 read_quiet t key h r = unless_out (checks_of_read h r t) r (reads_at h r (front r) key)
     (access_out r (page_of h.pages key) (unless (is_too_old (front r) (page_value h.pages r (page_of h.pages key)).horizon ∷ []) r (at_once (row_answer (front r) (rows (records r) (front r) key)) r)) (unless_out (is_too_old (front r) (page_value h.pages r (page_of h.pages key)).horizon ∷ []) r (at_once (row_answer (front r) (rows (records r) (front r) key)) r) refl))
 
--- the group after an event of a session that leaves its node and sends nothing
-pub session_lifted : (F : Doing) → AsksNoModes F → IsQuiet F → (g g' : Group) (n n' s s' : ℕ) (site : Site) (old : Replica) (seen now : Option Token) (a : Answer) (term : ℕ) → n < length g.replicas → site.number ≡ n → site.pages ≡ g.config.pages → site.store ≡ g.register → n' ≡ n → old ≡ get_or g.replicas n' old
-    → (F (here_at site) old).after ≡ old → a ≡ (F (here_at site) old).answer → seen ≡ get_or g.tokens s None → term ≡ old.term → now ≡ token_after term a seen → s' ≡ s → g ≡ g'
-    → record g { tokens = set g.tokens s' now } ≡ (at_session g' n s (F (here g' n) (replica g' n))).after
-session_lifted F free quiet g g' n n' s s' site old seen now a term within x y z e o left step t u v w is =
+-- the group after an event of a session that sends nothing
+pub session_lifted : (F : Doing) → AsksNoModes F → IsQuiet F → (g g' : Group) (n n' s s' : ℕ) (site : Site) (old new : Replica) (seen now : Option Token) (a : Answer) (term : ℕ) → n < length g.replicas → site.number ≡ n → site.pages ≡ g.config.pages → site.store ≡ g.register → n' ≡ n → old ≡ get_or g.replicas n' old
+    → new ≡ (F (here_at site) old).after → a ≡ (F (here_at site) old).answer → seen ≡ get_or g.tokens s None → term ≡ old.term → now ≡ token_after term a seen → s' ≡ s → g ≡ g'
+    → record g { replicas = set g.replicas n' new; tokens = set g.tokens s' now } ≡ (at_session g' n s (F (here g' n) (replica g' n))).after
+session_lifted F free quiet g g' n n' s s' site old new seen now a term within x y z e o left step t u v w is =
     let node : old ≡ replica g n = get_or_read g.replicas n old within (o ∙ ap (λ (k : ℕ). get_or g.replicas k old) e) nobody in
-    let part : F (here_at site) old ≡ F (here g n) (replica g n) = part_is F free g n n' site old within x y z e o in
-    let after : (F (here g n) (replica g n)).after ≡ replica g n = ap (λ (p : Part). p.after) (sym part) ∙ left ∙ node in
-    let same : (at_node g n (F (here g n) (replica g n))).after ≡ g
-    = ap (λ (out : List Posting). posted n out (with_replica g n (F (here g n) (replica g n)).after)) (quiet (here g n) (replica g n))
-    ∙ ap (with_replica g n) after ∙ (λ i. record g { replicas = set-get_or g.replicas n nobody i }) in
-    let answer : a ≡ (F (here g n) (replica g n)).answer = step ∙ ap (λ (p : Part). p.answer) part in
+    let after : record g { replicas = set g.replicas n' new } ≡ (at_node g n (F (here g n) (replica g n))).after = lifted F free quiet g g n n' site old new within x y z e o left refl in
+    let answer : a ≡ (F (here g n) (replica g n)).answer = told F free g g n n' site old a within x y z e o step refl in
     let term_is : term ≡ (replica g n).term = u ∙ ap (λ (r : Replica). r.term) node in
     let token_is : now ≡ token_after (replica g n).term (F (here g n) (replica g n)).answer (session_of g s) = v ∙ (λ i. token_after (term_is i) (answer i) (t i)) in
-    (λ i. record g { tokens = set g.tokens (w i) (token_is i) })
-    ∙ (λ i. with_token (sym same i) s (replica g n).term (F (here g n) (replica g n)).answer)
+    (λ i. record g { replicas = set g.replicas n' new; tokens = set g.tokens (w i) (token_is i) })
+    ∙ (λ i. with_token (after i) s (replica g n).term (F (here g n) (replica g n)).answer)
     ∙ (λ i. (at_session (is i) n s (F (here (is i) n) (replica (is i) n))).after)
 
 -- the group once a node did its part, before anything is sent
@@ -227,6 +224,31 @@ status_quiet h r = unless_out (is_down h r ∷ []) r (at_once (Status (role_of r
 pub status_free : AsksNoModes status_part
 unfolding status_part
 status_free h r = refl
+
+-- a page, its marks, and a flush
+
+pub page_quiet : (p : ℕ) → IsQuiet (λ h r. page_part h r p)
+unfolding page_part
+page_quiet p h r = unless_out (is_down h r ∷ reverts r ∷ []) r (at_once (if is_bad r p then PageBad else page_answer (page_value h.pages r p)) r) refl
+
+pub page_free : (p : ℕ) → AsksNoModes (λ h r. page_part h r p)
+unfolding page_part
+page_free p h r = refl
+
+pub sectors_quiet : (p : ℕ) → IsQuiet (λ h r. sectors_part r p)
+unfolding sectors_part
+sectors_quiet p h r = refl
+
+pub sectors_free : (p : ℕ) → AsksNoModes (λ h r. sectors_part r p)
+sectors_free p h r = refl
+
+pub flush_quiet : IsQuiet flush_part
+unfolding flush_part
+flush_quiet h r = unless_out (checks_of_flush h r) r (flushes r (pages_to_flush h.pages r)) refl
+
+pub flush_free : AsksNoModes flush_part
+unfolding flush_part
+flush_free h r = refl
 
 status_after : (h : Here) (r : Replica) → (status_part h r).after ≡ r
 unfolding status_part

@@ -13,16 +13,16 @@ use Rattle.ag_model.specs.declared.message.Body.TheVariants.{Block as BlockBody,
 use Rattle.ag_model.specs.declared.message.Block.{Block}
 use Rattle.ag_model.specs.declared.record.Record.{Record}
 use Rattle.ag_model.specs.declared.answer.Answer.{Answer}
-use Rattle.ag_model.specs.declared.answer.Answer.TheVariants.{No, Crashed, Lsn, Known, Hardened, Raised}
+use Rattle.ag_model.specs.declared.answer.Answer.TheVariants.{No, Crashed, Lsn, Known, Hardened, Raised, PageBad}
 use Rattle.ag_model.specs.declared.answer.Refusal.{Refusal}
 use Rattle.ag_model.specs.declared.answer.Refusal.TheVariants.{Unreadable, Torn, NotNoted, Down, Nothing, Pending, Gap, LinkFull}
 use Rattle.ag_model.specs.Cells.{has_lost}
 use Rattle.ag_model.specs.Rows.{page_of, rows}
-use Rattle.ag_rules.specs.Replica.{Replica, fallen, is_reverting, stripe, image, records, front, full_end, effective, page_value, end, peer, with_peer}
+use Rattle.ag_rules.specs.Replica.{Replica, fallen, is_bad, is_reverting, stripe, image, records, front, full_end, effective, page_value, end, peer, with_peer}
 use Rattle.ag_rules.specs.Group.{Group, replica, nobody, with_replica, link, is_full}
 use Rattle.ag_rules.specs.Plan.{Part, Posting, Plan, Here, Check, Case, here, at_node, posted, unless, first_case, refused, at_once, sending, writing, each_synced, Block_write}
 use Rattle.ag_rules.specs.Access.{access, cases_of_access, notes, pended}
-use Rattle.ag_rules.specs.Checks.{buffer_is_full, is_down}
+use Rattle.ag_rules.specs.Checks.{buffer_is_full, is_down, reverts}
 use Rattle.ag_rules.specs.Promotion.{log_check}
 use Rattle.ag_rules.specs.BeginEvent.{checks_of_begin}
 use Rattle.ag_rules.specs.Redo.{due_pages, touched_up_to}
@@ -34,6 +34,8 @@ use Rattle.ag_rules.specs.RaiseEvent.{raise_part, raised, checks_of_raise}
 use Rattle.ag_rules.specs.ReadEvent.{read_part, reads_at, checks_of_read, row_answer, is_too_old}
 use Rattle.ag_rules.specs.CrashEvent.{crash_part}
 use Rattle.ag_rules.specs.StartEvent.{start_part, start_records, checks_of_start, starts, starts_reverting, starts_redoing, starts_first, starts_second, is_named}
+use Rattle.ag_rules.specs.FlushEvent.{flush_part, flushes, pages_to_flush, checks_of_flush}
+use Rattle.ag_rules.specs.LookEvent.{page_part, page_answer, sectors_part}
 use Rattle.ag_rules.specs.SendEvent.{send_part, sends, checks_of_send, block_to_send}
 use Rattle.ag_rules.specs.BlockMessage.{block_part, cases_of_block, acks}
 use Rattle.ag_rules.specs.AckMessage.{ack_message_part, checks_of_ack_message, known_peer}
@@ -118,6 +120,18 @@ raise_stays h r x = stays_unless leaves_node (checks_of_raise h r x) r (at_once 
 crash_stays : (h : Here) (r : Replica) → Stays leaves_node r (crash_part h r)
 unfolding crash_part
 crash_stays h r = stays_unless leaves_node (is_down h r ∷ []) r (at_once Crashed (fallen r r.kept)) (λ why e t. absurd cc)
+
+flush_stays : (h : Here) (r : Replica) → Stays leaves_node r (flush_part h r)
+unfolding flush_part
+flush_stays h r = stays_unless leaves_node (checks_of_flush h r) r (flushes r (pages_to_flush h.pages r)) (λ why e t. absurd cc)
+
+page_stays : (h : Here) (r : Replica) (p : ℕ) → Stays leaves_node r (page_part h r p)
+unfolding page_part
+page_stays h r p = stays_unless leaves_node (is_down h r ∷ reverts r ∷ []) r (at_once (if is_bad r p then PageBad else page_answer (page_value h.pages r p)) r) (λ why e t. (refl, refl))
+
+sectors_stays : (r : Replica) (p : ℕ) → Stays leaves_node r (sectors_part r p)
+unfolding sectors_part
+sectors_stays r p why e t = (refl, refl)
 
 start_stays : (h : Here) (r : Replica) → Stays leaves_node r (start_part h r)
 unfolding start_part
@@ -255,6 +269,15 @@ crash_left g n = node_stays leaves_node g n (crash_part (here g n) (replica g n)
 
 pub start_left : (g : Group) (n : ℕ) (why : Refusal) → (at_node g n (start_part (here g n) (replica g n))).answer ≡ No why → leaves_node why ≡ true → (at_node g n (start_part (here g n) (replica g n))).after ≡ g
 start_left g n = node_stays leaves_node g n (start_part (here g n) (replica g n)) (start_stays (here g n) (replica g n))
+
+pub flush_left : (g : Group) (n : ℕ) (why : Refusal) → (at_node g n (flush_part (here g n) (replica g n))).answer ≡ No why → leaves_node why ≡ true → (at_node g n (flush_part (here g n) (replica g n))).after ≡ g
+flush_left g n = node_stays leaves_node g n (flush_part (here g n) (replica g n)) (flush_stays (here g n) (replica g n))
+
+pub page_left : (g : Group) (n p : ℕ) (why : Refusal) → (at_node g n (page_part (here g n) (replica g n) p)).answer ≡ No why → leaves_node why ≡ true → (at_node g n (page_part (here g n) (replica g n) p)).after ≡ g
+page_left g n p = node_stays leaves_node g n (page_part (here g n) (replica g n) p) (page_stays (here g n) (replica g n) p)
+
+pub sectors_left : (g : Group) (n p : ℕ) (why : Refusal) → (at_node g n (sectors_part (replica g n) p)).answer ≡ No why → leaves_node why ≡ true → (at_node g n (sectors_part (replica g n) p)).after ≡ g
+sectors_left g n p = node_stays leaves_node g n (sectors_part (replica g n) p) (sectors_stays (replica g n) p)
 
 pub read_left : (g : Group) (n s key : ℕ) (why : Refusal) → (at_session g n s (read_part (here g n) (replica g n) (token g s) key)).answer ≡ No why → leaves_node why ≡ true → (at_session g n s (read_part (here g n) (replica g n) (token g s) key)).after ≡ g
 read_left g n s key = session_stays g n s (read_part (here g n) (replica g n) (token g s) key) (read_stays (here g n) (replica g n) (token g s) key)

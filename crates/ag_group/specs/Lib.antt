@@ -4,7 +4,9 @@ pub mod CommandWords
 pub mod Faults
 pub mod Groups
 pub mod InFlight
+pub mod Lost
 pub mod Played
+pub mod ProperAfter
 pub mod Quiet
 pub mod Ran
 pub mod Refusals

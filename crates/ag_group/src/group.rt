@@ -1,28 +1,20 @@
-//! The group.
-ghost use Rattle.std.specs.Prelude.{◌≡◌, ◌≢◌, ◌<◌, ℕ, Err, IfOk, IfErr, OnOk, length, map, get_or, []};
+//! The group, which says no more once it has given up.
+ghost use Rattle.std.specs.Prelude.{◌≡◌, ◌≢◌, ℕ, Err, IfOk, IfErr, OnOk, length, map, get_or};
 ghost use Rattle.std.specs.List.{AllByRecursion};
 ghost use Rattle.ag_outside.specs.Counts.{HasRisen};
 ghost use Rattle.ag_rules.specs.Group.{opening};
-ghost use Rattle.ag_rules.specs.Next.{named, plan_of};
-ghost use Rattle.ag_rules.specs.Script.{IsConfig, IsEvent, IsWho};
+ghost use Rattle.ag_rules.specs.Script.{IsConfig, IsEvent};
 ghost use Rattle.ag_built.specs.Built.{IsBuilt, HasValues};
 ghost use Rattle.ag_rules.specs.Allowed.{IsAllowed, next};
 ghost use Rattle.ag_group.specs.Refusals.{IsLeft};
-ghost use Rattle.ag_group.specs.Quiet.{WritesNothing};
 ghost use Rattle.ag_group.specs.Blank.{IsBlankDisk};
 
-mod messages;
-mod nodes;
-
 use crate::fault::StepFault;
-use crate::links::Links;
-use crate::opening::{opening_nodes, opening_parts};
+use crate::members::Members;
+use ag_law_logs::reached_logs_are_proper;
 use ag_model::answer::Answer;
-use ag_model::config::{Config, Register, Token};
-use ag_model::event::{Event, Who};
-use ag_model::value::NoMemory;
-use ag_node::node::Node;
-use ag_node::site::Site;
+use ag_model::config::Config;
+use ag_model::event::Event;
 use ag_outside::disk::Disk;
 use std::alloc::Global;
 use std::marker::Model;
@@ -31,29 +23,25 @@ use std::marker::Model;
 /// failed.
 #[derive(Drop)]
 pub struct Group<D: Disk> {
-    config: Config,
-    nodes: Vec<Node<D>>,
-    links: Vec<Links>,
-    register: Register,
-    tokens: Vec<Option<Token>>,
+    members: Members<D>,
+    /// Whether it gave up, so that a script need not lead to it any more.
+    is_lost: bool,
 }
 
 impl<D: Disk> Model for Group<D> {
-    ghost use Rattle.std.specs.Prelude.{length};
-    ghost use Rattle.ag_group.specs.Groups.{IsGroup};
-    ghost use Rattle.ag_group.specs.Seen.{GroupView, faults_of, group_of};
+    ghost use Rattle.ag_group.specs.Lost.{IsReachedUnless};
+    ghost use Rattle.ag_group.specs.Seen.{GroupView};
 
     ghost Value = { GroupView };
 
-    ghost view = { λ g. record { group = group_of g.config g.nodes.items g.links.items g.register g.tokens.items; faults = faults_of g.nodes.items } };
+    ghost view = { λ g. g.members };
 
-    ghost invariant = { λ g. IsGroup g.config g.nodes.items g.links.items g.register (length g.tokens.items) };
+    ghost invariant = { λ g. IsReachedUnless g.is_lost g.members.group };
 }
 
 impl<D: Disk> Group<D> {
     /// The group at the opening, each node over the next of these disks: A leads, and the others follow it. Where it can't
     /// open the disks come back in their order; where memory is refused it may be fewer.
-    #[tactic(auto, unfolding(ag_rules::specs::Group::opening))]
     pub fn create(
         alloc: Global,
         config: &Config,
@@ -68,23 +56,17 @@ impl<D: Disk> Group<D> {
         ensures fault { IfErr result (λ x. (n : ℕ) → x.0 ≡ StepFault.DiskFault n → HasRisen (get_or (map D.faults disks.items) n 0) (get_or (map D.faults x.1.items) n 0)) }
         ensures lawful { IfErr result (λ x. (n : ℕ) → x.0 ≡ StepFault.Unlawful n → ⊥) }
     {
-        let Ok(parts) = opening_parts(alloc, config) else {
-            return Err((StepFault::NoMemory, disks));
-        };
-        match opening_nodes(alloc, config, disks) {
-            Ok(nodes) => Ok(Group {
-                config: parts.config,
-                nodes,
-                links: parts.links,
-                register: parts.register,
-                tokens: parts.tokens,
+        reached_logs_are_proper();
+        match Members::create(alloc, config, disks) {
+            Ok(members) => Ok(Group {
+                members,
+                is_lost: false,
             }),
-            Err(e) => Err(e),
+            Err(failed) => Err(failed),
         }
     }
 
     /// One event, which its suffix may stop in a write, or have a call of its disk fail.
-    #[tactic(auto, unfolding(ag_rules::specs::Next::done))]
     pub fn step(&mut self, alloc: Global, event: &Event) -> Result<Answer, StepFault>
         requires built { IsBuilt event.now }
         requires event { IsEvent self.old.group.config event.now }
@@ -97,138 +79,16 @@ impl<D: Disk> Group<D> {
         ensures fault { (n : ℕ) → result ≡ Err (StepFault.DiskFault n) → HasRisen (get_or self.old.faults n 0) (get_or self.new.faults n 0) }
         ensures lawful { (n : ℕ) → result ≡ Err (StepFault.Unlawful n) → ⊥ }
     {
-        match event {
-            Event::Harden { node, suffix } => {
-                let n = self.named(node);
-                let answer = self.harden(alloc, n, suffix)?;
-                Ok(answer)
-            }
-            Event::Deliver {
-                node,
-                to,
-                number,
-                suffix,
-            } => {
-                let (n, m) = (self.named(node), self.named(to));
-                let answer = self.deliver(alloc, n, m, *number, false, suffix)?;
-                Ok(answer)
-            }
-            Event::Repeat {
-                node,
-                to,
-                number,
-                suffix,
-            } => {
-                let (n, m) = (self.named(node), self.named(to));
-                let answer = self.deliver(alloc, n, m, *number, true, suffix)?;
-                Ok(answer)
-            }
-            Event::Start { node, suffix } => {
-                let n = self.named(node);
-                let answer = self.start(alloc, n, suffix)?;
-                Ok(answer)
-            }
-            _ => {
-                let answer = self.quiet_step(alloc, event)?;
-                Ok(answer)
-            }
+        if self.is_lost {
+            return Err(StepFault::NoMemory);
         }
-    }
-
-    /// One event that writes nothing, so that no suffix cuts it.
-    fn quiet_step(&mut self, alloc: Global, event: &Event) -> Result<Answer, NoMemory>
-        requires built { IsBuilt event.now }
-        requires quiet { WritesNothing event.now }
-        requires event { IsEvent self.old.group.config event.now }
-        requires values { HasValues event.now }
-        ensures answer { IfOk result (λ a. a ≡ (plan_of self.old.group event.now).answer) }
-        ensures after { OnOk result (self.new.group ≡ (plan_of self.old.group event.now).after) }
-        ensures writes { OnOk result ((plan_of self.old.group event.now).writes ≡ []) }
-        ensures refused { IfOk result (λ a. IsLeft event.now a → self.new.group ≡ self.old.group) }
-        ensures config { OnOk result (self.new.group.config ≡ self.old.group.config) }
-    {
-        match event {
-            Event::Set { node, pairs, .. } => {
-                let n = self.named(node);
-                let answer = self.set(alloc, n, pairs)?;
-                Ok(answer)
+        reached_logs_are_proper();
+        match self.members.step(alloc, event) {
+            Ok(answer) => Ok(answer),
+            Err(fault) => {
+                self.is_lost = true;
+                Err(fault)
             }
-            Event::Send { node, to, .. } => {
-                let (n, m) = (self.named(node), self.named(to));
-                let answer = self.send(alloc, n, m)?;
-                Ok(answer)
-            }
-            Event::Lose {
-                node,
-                to,
-                number,
-                ..
-            } => {
-                let (n, m) = (self.named(node), self.named(to));
-                let answer = self.lose(n, m, *number);
-                Ok(answer)
-            }
-            Event::Apply { node, stripe, .. } => {
-                let n = self.named(node);
-                let answer = self.apply(n, *stripe);
-                Ok(answer)
-            }
-            Event::Raise { node, stripe, .. } => {
-                let n = self.named(node);
-                let answer = self.raise(n, *stripe);
-                Ok(answer)
-            }
-            Event::Redo { node, .. } => {
-                let n = self.named(node);
-                let answer = self.redo(n);
-                Ok(answer)
-            }
-            Event::Read {
-                node,
-                session,
-                key,
-                ..
-            } => {
-                let n = self.named(node);
-                let answer = self.read(alloc, n, *session, *key)?;
-                Ok(answer)
-            }
-            Event::Crash { node, .. } => {
-                let n = self.named(node);
-                let answer = self.crash(alloc, n);
-                Ok(answer)
-            }
-            Event::Status { node, .. } => {
-                let n = self.named(node);
-                let answer = self.status(n);
-                Ok(answer)
-            }
-            _ => unreachable!(),
-        }
-    }
-
-    /// Where an event of replica n happens.
-    fn site(&self, n: u8) -> Site
-        ensures number { result.number ≡ n }
-        ensures pages { result.pages ≡ self.now.group.config.pages }
-        ensures store { result.store ≡ self.now.group.register }
-    {
-        Site {
-            number: n,
-            pages: self.config.pages,
-            store: self.register,
-        }
-    }
-
-    /// The replica that a word names.
-    fn named(&self, who: &Who) -> u8
-        requires { IsWho self.now.group.config who.now }
-        ensures is { result ≡ named self.now.group who.now }
-        ensures within { result < length self.now.group.config.modes }
-    {
-        match who {
-            Who::Letter(n) => *n,
-            Who::Primary => self.register.primary,
         }
     }
 }

@@ -5,6 +5,7 @@ mod events;
 pub mod fault;
 pub mod group;
 mod links;
+mod members;
 mod opening;
 pub mod play;
 pub mod run;

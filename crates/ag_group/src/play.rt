@@ -24,7 +24,11 @@ use ag_script::script::read_events;
 use std::alloc::{AllocError, Global};
 
 #[cfg(test)]
+mod committed;
+#[cfg(test)]
 mod crashes;
+#[cfg(test)]
+mod flushes;
 #[cfg(test)]
 mod stops;
 #[cfg(test)]

@@ -58,21 +58,27 @@ fn first_fault(alloc: Global, disks: Vec<MemDisk>, script: &[u8]) -> Result<Opti
     Ok(None)
 }
 
-/// A row is hardened at A, and its block goes to B.
-const TO_B: &[u8] = b"set A 5 aa\nharden A\nsend A B\ndeliver A B 1\n";
+/// A row is hardened at A, and its block goes to B, which redoes it and writes its page.
+const TO_B: &[u8] = b"set A 5 aa\nharden A\nsend A B\ndeliver A B 1\nredo B\nflush B\n";
 
 #[test]
 fn a_disk_fails_in_a_step(rt: HostRuntime) -> Result<(), Fail> {
     let alloc = rt.alloc();
-    // The opening takes six calls of each disk, and a block two: a write and a sync.
+    // The opening takes six calls of each disk, and a block two: a write and a sync. Redo reads the sixteen sectors of the
+    // page, and a flush takes 36 calls more.
     let at_a = Some(StepFault::DiskFault { node: 0 });
     let at_b = Some(StepFault::DiskFault { node: 1 });
     let table = [
-        ([7], [9], at_a),
-        ([8], [9], at_a),
-        ([9], [7], at_b),
-        ([9], [8], at_b),
-        ([9], [9], None),
+        ([7], [99], at_a),
+        ([8], [99], at_a),
+        ([9], [99], at_a),
+        ([24], [99], at_a),
+        ([25], [7], at_b),
+        ([25], [8], at_b),
+        ([25], [24], at_b),
+        ([25], [25], at_b),
+        ([25], [60], at_b),
+        ([25], [61], None),
     ];
     for (first, second, fault) in table {
         let disks = two_disks(alloc, &first, &second)?;

@@ -1,6 +1,6 @@
-pub mod MarksSteps
+pub mod SetWhere
+pub mod StripesOf
 pub mod Views
-pub mod StripesSteps
 pub mod Folds
 pub mod Quiet
 pub mod RoomUsed
@@ -9,10 +9,15 @@ pub mod RoomPairs
 pub mod SetFits
 pub mod Whole
 pub mod WholeRoom
+pub mod HomesOf
+pub mod HomesKept
+pub mod NodesKept
 pub mod NodeSteps
 pub mod Rising
 pub mod NodeSets
 pub mod OpeningSteps
 pub mod StartSteps
 pub mod HomeSteps
+pub mod FlushSteps
 pub mod Cutting
+mod TestLogs

@@ -2,25 +2,24 @@
 use Rattle.std.proofs.Common.{◌≡◌, ℕ, ◌+◌, ◌<◌, ◌≤◌, List, [], ◌∷◌, ◌++◌, length, Bool, true, false, refl, sym, ap, ◌∙◌, subst, arith, append_assoc, le-ltb, lt-ltb}
 use Rattle.std.specs.Prelude.{Option, Some, None, if◌then◌else◌}
 use Rattle.std.specs.List.{All}
-use Rattle.std.proofs.lemmas.List.{length-map}
 use Rattle.std.proofs.lemmas.List.Sums.{sum_by-append}
 use Rattle.ag_model.specs.declared.event.Pair.{Pair}
 use Rattle.ag_model.specs.declared.record.Record.{Record}
-use Rattle.ag_model.specs.declared.record.Log.{Log}
 use Rattle.ag_model.specs.declared.answer.Answer.{Answer}
 use Rattle.ag_model.specs.declared.answer.Answer.TheVariants.{No, Lsn}
 use Rattle.ag_model.specs.declared.answer.Refusal.{Refusal}
 use Rattle.ag_model.specs.declared.answer.Refusal.TheVariants.{BufferFull}
 use Rattle.ag_model.specs.Sizes.{record_size, records_size, buffer_free}
-use Rattle.ag_rules.specs.Replica.{Replica, Peer, full_end, Stripe}
+use Rattle.ag_rules.specs.Replica.{Replica, Peer, full_end}
 use Rattle.ag_rules.specs.Plan.{Part, Here, refused, unless, at_once}
 use Rattle.ag_record.specs.Spelling.{HaveSpelling}
 use Rattle.ag_rules.specs.Checks.{buffer_is_full}
 use Rattle.ag_rules.specs.SetEvent.{pairs_pass, sets, records_of_set, with_set}
-use Rattle.ag_node.specs.Activity.{Activity}
-use Rattle.ag_node.specs.View.{node_of, page_of_flag}
+use Rattle.ag_node.specs.Homes.{Home}
+use Rattle.ag_node.specs.View.{node_of, stripes_in}
 use Rattle.ag_node.specs.Room.{IsSetLog, first_full, used_after, unless_some}
 use Rattle.ag_node.specs.Nodes.{IsNode, leading_of}
+use Rattle.ag_node.proofs.NodeSteps.{pages_are}
 use Rattle.ag_node.proofs.Quiet.{access_is_free}
 use Rattle.ag_logstore.proofs.Fitting.{fit_append}
 use Rattle.ag_built.specs.Whole.{IsWhole}
@@ -33,16 +32,16 @@ abbrev pub set_of : Here → Replica → List Pair → Part
 set_of h r pairs = pairs_pass h r (r.leading.last_txn + 1) [] pairs (sets r (records_of_set h.pages (r.leading.last_txn + 1) pairs))
 
 -- where a node knows the room on its pages, that decides
-pub set_by_room : (activity : Activity) (log : Log) (ss : List Stripe) (ds : List Bool) (buffer : List Record) (bytes txn synced : ℕ) (peers : List Peer) (used : List ℕ) (r : Replica) (h : Here) (pairs : List Pair)
-    → node_of activity log ss ds (leading_of buffer txn synced peers) ≡ r → h.pages ≡ length r.pages → IsNode activity log ss (length ds) buffer bytes txn used → r.leads ≡ true
-    → set_of h r pairs ≡ unless_some (first_full h.pages used [] pairs) (node_of activity log ss ds (leading_of buffer txn synced peers)) (sets (node_of activity log ss ds (leading_of buffer txn synced peers)) (records_of_set h.pages (txn + 1) pairs))
-set_by_room activity log ss ds buffer bytes txn synced peers used r h pairs is p node leading =
-    let n : Replica = node_of activity log ss ds (leading_of buffer txn synced peers) in
-    let few : h.pages ≡ length ds = p ∙ ap (λ (x : Replica). length x.pages) (sym is) ∙ length-map ds page_of_flag in
-    let leads_is : activity.leads ≡ true = ap (λ (x : Replica). x.leads) is ∙ leading in
-    let room : IsSetLog h.pages txn (log.records ++ buffer) used = subst (λ (x : ℕ). IsSetLog x txn (log.records ++ buffer) used) (sym few) (node.room leads_is) in
-    (λ i. set_of h (sym is i) pairs)
-    ∙ pairs_pass_by_room h n used [] pairs (sets n (records_of_set h.pages (txn + 1) pairs)) (omega (arith, few, node.some_pages)) room (λ q part a b. access_is_free activity log ss ds (leading_of buffer txn synced peers) q part)
+pub set_by_room : (h : Home) (published : List ℕ) (buffer : List Record) (bytes txn synced : ℕ) (peers : List Peer) (used : List ℕ) (r : Replica) (here : Here) (pairs : List Pair)
+    → node_of h (stripes_in h published) (leading_of buffer txn synced peers) ≡ r → here.pages ≡ length r.pages → IsNode h published buffer bytes txn used → r.leads ≡ true
+    → (let n : Replica = node_of h (stripes_in h published) (leading_of buffer txn synced peers) in set_of here r pairs ≡ unless_some (first_full here.pages used [] pairs) n (sets n (records_of_set here.pages (txn + 1) pairs)))
+set_by_room h published buffer bytes txn synced peers used r here pairs is p node leading =
+    let n : Replica = node_of h (stripes_in h published) (leading_of buffer txn synced peers) in
+    let few : here.pages ≡ h.pages = pages_are h (stripes_in h published) (leading_of buffer txn synced peers) r here.pages is p node.home in
+    let leads_is : h.activity.leads ≡ true = ap (λ (x : Replica). x.leads) is ∙ leading in
+    let room : IsSetLog here.pages txn (h.log.records ++ buffer) used = subst (λ (x : ℕ). IsSetLog x txn (h.log.records ++ buffer) used) (sym few) (node.room leads_is) in
+    (λ i. set_of here (sym is i) pairs)
+    ∙ pairs_pass_by_room here n used [] pairs (sets n (records_of_set here.pages (txn + 1) pairs)) (omega (arith, few, node.home.some_pages)) room (λ q part a b. access_is_free h (stripes_in h published) (leading_of buffer txn synced peers) q part node.home.sound)
 
 -- a part that is told, of a replica that is told
 pub record Told (r : Replica) (part : Part) (answer : Answer) (after : Replica) : Type 0 where
@@ -71,27 +70,26 @@ set_done n r m part full new need free lsn is by e a b le l same =
     let at : lsn ≡ full_end n + length new = l ∙ ap (λ (x : Replica). full_end x + length new) (sym is) in
     record { answered = ap Lsn at ∙ ap (λ (x : Part). x.answer) (sym all); left = same ∙ ap (λ (x : Part). x.after) (sym all) }
 
-pub node_after_set : (activity : Activity) (log : Log) (ss : List Stripe) (pages : ℕ) (buffer buffer' new : List Record) (bytes bytes' txn txn' : ℕ) (used used' : List ℕ) (pairs : List Pair)
-    → IsNode activity log ss pages buffer bytes txn used → buffer' ≡ buffer ++ new → new ≡ records_of_set pages txn' pairs → txn' ≡ txn + 1 → bytes' ≡ bytes + records_size new
-    → used' ≡ used_after pages pairs used → All (λ b. b ≤ 8144) used' → bytes' ≤ 15488 → HaveSpelling new → IsNode activity log ss pages buffer' bytes' txn' used'
-node_after_set activity log ss pages buffer buffer' new bytes bytes' txn txn' used used' pairs h b is t c u small most fits =
-    let grown : log.records ++ buffer' ≡ (log.records ++ buffer) ++ records_of_set pages (txn + 1) pairs
-    = ap (λ (x : List Record). log.records ++ x) (b ∙ ap (λ (x : List Record). buffer ++ x) (is ∙ ap (λ (x : ℕ). records_of_set pages x pairs) t)) ∙ sym (append_assoc log.records buffer (records_of_set pages (txn + 1) pairs)) in
+pub node_after_set : (h : Home) (published : List ℕ) (buffer buffer' new : List Record) (bytes bytes' txn txn' : ℕ) (used used' : List ℕ) (pairs : List Pair)
+    → IsNode h published buffer bytes txn used → buffer' ≡ buffer ++ new → new ≡ records_of_set h.pages txn' pairs → txn' ≡ txn + 1 → bytes' ≡ bytes + records_size new
+    → used' ≡ used_after h.pages pairs used → All (λ b. b ≤ 8144) used' → bytes' ≤ 15488 → HaveSpelling new → IsNode h published buffer' bytes' txn' used'
+node_after_set h published buffer buffer' new bytes bytes' txn txn' used used' pairs is b e t c u small most fits =
+    let log = h.log in
+    let grown : log.records ++ buffer' ≡ (log.records ++ buffer) ++ records_of_set h.pages (txn + 1) pairs
+    = ap (λ (x : List Record). log.records ++ x) (b ∙ ap (λ (x : List Record). buffer ++ x) (e ∙ ap (λ (x : ℕ). records_of_set h.pages x pairs) t)) ∙ sym (append_assoc log.records buffer (records_of_set h.pages (txn + 1) pairs)) in
     record {
-      stands = h.stands;
-      first = h.first;
-      some_pages = h.some_pages;
-      few_pages = h.few_pages;
-      sixteen = h.sixteen;
-      redone = h.redone;
-      counted = c ∙ ap (λ (x : ℕ). x + records_size new) h.counted ∙ sym (sum_by-append record_size buffer new) ∙ ap records_size (sym b);
+      home = is.home;
+      sixteen = is.sixteen;
+      redone = is.redone;
+      ahead = is.ahead;
+      counted = c ∙ ap (λ (x : ℕ). x + records_size new) is.counted ∙ sym (sum_by-append record_size buffer new) ∙ ap records_size (sym b);
       most = most;
-      fits = subst HaveSpelling (sym b) (fit_append buffer new h.fits fits);
-      whole = subst IsWhole (sym (b ∙ ap (λ (x : List Record). buffer ++ x) is)) (whole_append buffer (records_of_set pages txn' pairs) h.whole (whole_set pages txn' pairs));
-      room = λ e. subst (λ (x : ℕ). IsSetLog pages x (log.records ++ buffer') used') (sym t)
-          (subst (λ (x : List ℕ). IsSetLog pages (txn + 1) (log.records ++ buffer') x) (sym u)
-          (subst (λ (x : List Record). IsSetLog pages (txn + 1) x (used_after pages pairs used)) (sym grown)
-          (set_log_grows pages txn (log.records ++ buffer) used pairs (omega (arith, h.some_pages)) (h.room e))));
+      fits = subst HaveSpelling (sym b) (fit_append buffer new is.fits fits);
+      whole = subst IsWhole (sym (b ∙ ap (λ (x : List Record). buffer ++ x) e)) (whole_append buffer (records_of_set h.pages txn' pairs) is.whole (whole_set h.pages txn' pairs));
+      room = λ l. subst (λ (x : ℕ). IsSetLog h.pages x (log.records ++ buffer') used') (sym t)
+          (subst (λ (x : List ℕ). IsSetLog h.pages (txn + 1) (log.records ++ buffer') x) (sym u)
+          (subst (λ (x : List Record). IsSetLog h.pages (txn + 1) x (used_after h.pages pairs used)) (sym grown)
+          (set_log_grows h.pages txn (log.records ++ buffer) used pairs (omega (arith, is.home.some_pages)) (is.room l))));
       small = small;
     }
 

@@ -1,12 +1,10 @@
 -- A node whose pages are neither bad nor pending nor held: access, redo and harden are free of notes and installs.
-use Rattle.std.proofs.Common.{◌≡◌, ℕ, zero, suc, ◌+◌, ◌-◌, ◌<◌, ◌≤◌, List, [], ◌∷◌, ◌++◌, length, drop, get_or, set, map, replicate, Some, Bool, true, false, not, cond, ◌&&◌, ◌||◌, ◌==◌, if◌then◌else◌, None, refl, sym, ap, ap₂, ◌∙◌, arith, ne_eqb, inl, inr}
+use Rattle.std.proofs.Common.{◌≡◌, ℕ, zero, suc, ◌+◌, ◌-◌, ◌<◌, ◌≤◌, List, [], ◌∷◌, ◌++◌, length, drop, get_or, set, map, Bool, true, false, not, cond, ◌&&◌, ◌||◌, ◌==◌, if◌then◌else◌, None, refl, sym, ap, ap₂, ◌∙◌, arith, ne_eqb, inl, inr}
 use Rattle.std.specs.List.{list_any, filter, range_with_len}
 use Rattle.std.proofs.lemmas.List.{take_all}
 use Rattle.std.proofs.lemmas.Bool.Decides.{eqb_tells}
 use Rattle.std.proofs.Math.Bool.{and-true, and-false, or-false}
 use Rattle.ag_model.specs.declared.record.Record.{Record}
-use Rattle.ag_model.specs.declared.record.Log.{Log}
-use Rattle.ag_model.specs.declared.answer.Cell.TheVariants.{Mark}
 use Rattle.ag_model.specs.declared.answer.Answer.TheVariants.{Hardened, Front, Applied, No}
 use Rattle.ag_model.specs.declared.answer.Refusal.TheVariants.{Pending, NotNoted}
 use Rattle.ag_model.specs.Rows.{touches, contains, page_numbers, stripe_of}
@@ -19,10 +17,10 @@ use Rattle.ag_rules.specs.Redo.{touched_by, touched_up_to, notes_of, notes_from,
 use Rattle.ag_rules.specs.HardenEvent.{hardened_one, hardens}
 use Rattle.ag_rules.specs.RedoEvent.{redoes, redoes_touching, redone_whole}
 use Rattle.ag_rules.specs.ApplyEvent.{applied_one, applies, applies_touching, touched_in_stripe}
-use Rattle.ag_node.specs.Activity.{Activity}
-use Rattle.ag_node.specs.View.{node_of, kept_of, page_of_flag}
-use Rattle.ag_node.specs.Marked.{set_where, is_of, marked, marked_of, is_touched_after, marked_to_end}
-use Rattle.ag_node.proofs.MarksSteps.{length-set_where}
+use Rattle.ag_store.specs.Views.{set_where}
+use Rattle.ag_node.specs.Homes.{Home, with_more}
+use Rattle.ag_node.specs.View.{node_of, page_of_flag}
+use Rattle.ag_node.specs.Nodes.{AreSound, IsHome}
 
 -- filters
 
@@ -30,7 +28,7 @@ filter_none : {A : Type 0} (f : A → Bool) (xs : List A) → ((x : A) → f x �
 filter_none f [] none = refl
 filter_none f (x ∷ xs) none = ap (λ (b : Bool). cond b (x ∷ filter f xs) (filter f xs)) (none x) ∙ filter_none f xs none
 
-filter_same : {A : Type 0} (f g : A → Bool) (xs : List A) → ((x : A) → f x ≡ g x) → filter f xs ≡ filter g xs
+pub filter_same : {A : Type 0} (f g : A → Bool) (xs : List A) → ((x : A) → f x ≡ g x) → filter f xs ≡ filter g xs
 filter_same f g [] same = refl
 filter_same f g (x ∷ xs) same = ap₂ (λ (b : Bool) (l : List _). cond b (x ∷ l) l) (same x) (filter_same f g xs same)
 
@@ -57,13 +55,8 @@ contains-filter f p a (suc n) l h =
 
 -- pages of a quiet node
 
-sound_blank : (n i : ℕ) → is_sound (get_or (replicate n (replicate 16 (Mark 0))) i []) ≡ true
-sound_blank zero i = refl
-sound_blank (suc n) zero = refl
-sound_blank (suc n) (suc i) = sound_blank n i
-
-not_bad : (activity : Activity) (log : Log) (ss : List Stripe) (ds : List Bool) (leading : Leading) (p : ℕ) → is_bad (node_of activity log ss ds leading) p ≡ false
-not_bad activity log ss ds leading p = ap not (sound_blank (length ds) (p - 16))
+pub not_bad : (h : Home) (ss : List Stripe) (leading : Leading) → AreSound h.cells → (p : ℕ) → is_bad (node_of h ss leading) p ≡ false
+not_bad h ss leading sound p = ap not (sound (p - 16))
 
 not_pending : (ds : List Bool) (i : ℕ) → (get_or (map page_of_flag ds) i clean_page).pending ≡ false
 not_pending [] i = refl
@@ -76,10 +69,10 @@ not_held (d ∷ ds) zero = refl
 not_held (d ∷ ds) (suc i) = not_held ds i
 
 -- no page is noted
-pub no_notes : (activity : Activity) (log : Log) (ss : List Stripe) (ds : List Bool) (leading : Leading) (touched : List ℕ) → notes_of (node_of activity log ss ds leading) touched ≡ []
-no_notes activity log ss ds leading touched =
-    let r = node_of activity log ss ds leading in
-    ap (notes_from r []) (filter_none (λ p. is_bad r p && not (page r p).pending) touched (λ p. ap (λ (b : Bool). b && not (page r p).pending) (not_bad activity log ss ds leading p)))
+pub no_notes : (h : Home) (ss : List Stripe) (leading : Leading) (touched : List ℕ) → AreSound h.cells → notes_of (node_of h ss leading) touched ≡ []
+no_notes h ss leading touched sound =
+    let r = node_of h ss leading in
+    ap (notes_from r []) (filter_none (λ p. is_bad r p && not (page r p).pending) touched (λ p. ap (λ (b : Bool). b && not (page r p).pending) (not_bad h ss leading sound p)))
 
 -- nothing is held, so nothing is installed
 pub nothing_due : (r : Replica) (fs : List Bool) (pages : ℕ) → r.pages ≡ map page_of_flag fs → due_pages pages r ≡ []
@@ -92,17 +85,13 @@ none_installed first (x ∷ xs) = ap (λ l. x ∷ l) (none_installed (first + 1)
 pub installed_none : (r : Replica) → installed [] r ≡ r
 installed_none r = ap (λ (l : List Page). record r { pages = l }) (none_installed 16 r.pages)
 
--- where the stripe of a page stands
-pub stands : (activity : Activity) (log : Log) (ss : List Stripe) (ds : List Bool) (leading : Leading) (p : ℕ) → applied_of (node_of activity log ss ds leading) p ≡ (get_or ss (stripe_of p) no_stripe).applied
-stands activity log ss ds leading p = refl
-
 -- an event goes on at each page
-pub access_is_free : (activity : Activity) (log : Log) (ss : List Stripe) (ds : List Bool) (leading : Leading) (p : ℕ) (part : Part) → access (node_of activity log ss ds leading) p part ≡ part
+pub access_is_free : (h : Home) (ss : List Stripe) (leading : Leading) (p : ℕ) (part : Part) → AreSound h.cells → access (node_of h ss leading) p part ≡ part
 unfolding access
-access_is_free activity log ss ds leading p part =
-    let r = node_of activity log ss ds leading in
+access_is_free h ss leading p part sound =
+    let r = node_of h ss leading in
     let cases : Bool → Bool → List Case = λ pending bad. record { when = pending; part = refused (Pending p) r } ∷ record { when = bad && not (can_note p r.kept.suspects); part = at_once (No (NotNoted p)) (pended r p) } ∷ record { when = bad; part = notes r p } ∷ [] in
-    ap₂ (λ (pending bad : Bool). first_case (cases pending bad) part) (not_pending ds (p - 16)) (not_bad activity log ss ds leading p)
+    ap₂ (λ (pending bad : Bool). first_case (cases pending bad) part) (not_pending h.dirty (p - 16)) (not_bad h ss leading sound p)
 
 -- redo
 
@@ -117,14 +106,16 @@ flags_redone r touched test first (d ∷ ds) good same =
     (ap₂ (λ (c b : Bool). record (page_of_flag d) { dirty = if c && not (b || false) then true else d; pending = if c && b then true else false }) (same first (omega arith) (omega arith)) (good first) ∙ dirtied (test first) d)
     (flags_redone r touched test (first + 1) ds good (λ p l h. same p (omega arith) (omega arith)))
 
+-- the pages that pass a test are dirty too
+abbrev pub dirty_where : (ℕ → Bool) → Home → Home
+dirty_where test h = record h { dirty = set_where test 16 h.dirty }
+
 -- the pages that pass a test become dirty, and nothing else changes
-pub redone_where : (activity : Activity) (log : Log) (ss : List Stripe) (ds : List Bool) (leading : Leading) (touched : List ℕ) (test : ℕ → Bool)
-    → ((p : ℕ) → 16 ≤ p → p < 16 + length ds → contains p touched ≡ test p) → redone touched (node_of activity log ss ds leading) ≡ node_of activity log ss (set_where test 16 ds) leading
-redone_where activity log ss ds leading touched test same =
-    let r = node_of activity log ss ds leading in
-    ap₂ (λ (n : ℕ) (l : List Page). record r { kept = kept_of activity.incarnation log n; pages = l })
-    (sym (length-set_where test 16 ds))
-    (flags_redone r touched test 16 ds (not_bad activity log ss ds leading) same)
+pub redone_where : (h : Home) (ss : List Stripe) (leading : Leading) (touched : List ℕ) (test : ℕ → Bool) → AreSound h.cells
+    → ((p : ℕ) → 16 ≤ p → p < 16 + length h.dirty → contains p touched ≡ test p) → redone touched (node_of h ss leading) ≡ node_of (dirty_where test h) ss leading
+redone_where h ss leading touched test sound same =
+    let r = node_of h ss leading in
+    ap (λ (l : List Page). record r { pages = l }) (flags_redone r touched test 16 h.dirty (not_bad h ss leading sound) same)
 
 -- the records after an LSN, to the end
 pub after_end : (xs : List Record) (a : ℕ) → after_to a (length xs) xs ≡ drop a xs
@@ -132,46 +123,56 @@ after_end xs a = ap (drop a) (take_all (length xs) xs (omega arith))
 
 -- harden, redo and apply
 
--- the node once its buffer is applied
-pub harden_after : (activity : Activity) (log : Log) (ss : List Stripe) (ds : List Bool) (leading : Leading) → hardened_one (length ds) (node_of activity log ss ds leading) ≡ node_of activity log (all_at (length log.records + length leading.buffer)) (marked leading.buffer ds) (record leading { buffer = [] })
-harden_after activity log ss ds leading =
-    let test = λ (p : ℕ). list_any (touches (length ds) p) leading.buffer in
-    ap (λ (s : Replica). record s { stripes = all_at (length log.records + length leading.buffer); leading = record leading { buffer = [] } })
-    (redone_where activity log ss ds leading (touched_by (length ds) leading.buffer) test (λ p l h. contains-filter test p 16 (length ds) l h))
+-- the pages that a record of the buffer touches
+abbrev pub buffer_touches : Home → List Record → ℕ → Bool
+buffer_touches h buffer p = list_any (touches h.pages p) buffer
 
-pub hardens_is : (activity : Activity) (log : Log) (ss : List Stripe) (ds : List Bool) (leading : Leading) →
-    (let r = node_of activity log ss ds leading in hardens (length ds) r (due_pages (length ds) (hardened_one (length ds) r)))
-    ≡ record { answer = Hardened (length log.records + length leading.buffer); writes = (Block_write leading.buffer ∷ []) ∷ []; out = []; after = node_of activity (with_block log leading.buffer) (all_at (length log.records + length leading.buffer)) (marked leading.buffer ds) (record leading { buffer = [] }) }
-hardens_is activity log ss ds leading =
-    let r = node_of activity log ss ds leading in
-    let after = node_of activity log (all_at (length log.records + length leading.buffer)) (marked leading.buffer ds) (record leading { buffer = [] }) in
-    let applied : hardened_one (length ds) r ≡ after = harden_after activity log ss ds leading in
-    ap (hardens (length ds) r) (ap (due_pages (length ds)) applied ∙ nothing_due after (marked leading.buffer ds) (length ds) refl)
+-- the node once its buffer is applied
+pub harden_after : (h : Home) (ss : List Stripe) (leading : Leading) → IsHome h
+    → hardened_one h.pages (node_of h ss leading) ≡ node_of (dirty_where (buffer_touches h leading.buffer) h) (all_at (length h.log.records + length leading.buffer)) (record leading { buffer = [] })
+harden_after h ss leading is =
+    let test = buffer_touches h leading.buffer in
+    ap (λ (s : Replica). record s { stripes = all_at (length h.log.records + length leading.buffer); leading = record leading { buffer = [] } })
+    (redone_where h ss leading (touched_by h.pages leading.buffer) test is.sound (λ p l k. contains-filter test p 16 h.pages l (omega (arith, k, is.each_flag))))
+
+pub hardens_is : (h : Home) (ss : List Stripe) (leading : Leading) → IsHome h →
+    (let r = node_of h ss leading in hardens h.pages r (due_pages h.pages (hardened_one h.pages r)))
+    ≡ record { answer = Hardened (length h.log.records + length leading.buffer); writes = (Block_write leading.buffer ∷ []) ∷ []; out = []; after = node_of (dirty_where (buffer_touches h leading.buffer) (with_more h leading.buffer)) (all_at (length h.log.records + length leading.buffer)) (record leading { buffer = [] }) }
+hardens_is h ss leading is =
+    let r = node_of h ss leading in
+    let marked = dirty_where (buffer_touches h leading.buffer) h in
+    let after = node_of marked (all_at (length h.log.records + length leading.buffer)) (record leading { buffer = [] }) in
+    let applied : hardened_one h.pages r ≡ after = harden_after h ss leading is in
+    ap (hardens h.pages r) (ap (due_pages h.pages) applied ∙ nothing_due after marked.dirty h.pages refl)
     ∙ ap₂ (λ (ns : List Write) (s : Replica). writing (Hardened (full_end r)) (each_synced (Block_write leading.buffer ∷ ns ++ [])) [] s)
-    (no_notes activity log ss ds leading (touched_by (length ds) leading.buffer))
-    (installed_none (hardened_one (length ds) r) ∙ applied)
+    (no_notes h ss leading (touched_by h.pages leading.buffer) is.sound)
+    (installed_none (hardened_one h.pages r) ∙ applied)
+
+-- the pages that a record up to an LSN touches where their stripe stands so
+abbrev pub stripe_touches : Home → List Stripe → ℕ → ℕ → Bool
+stripe_touches h ss high p = list_any (touches h.pages p) (after_to (get_or ss (stripe_of p) no_stripe).applied high h.log.records)
 
 -- the node once redo went to the end
-pub redo_after : (activity : Activity) (log : Log) (ss : List Stripe) (ds : List Bool) (leading : Leading)
-    → redone_whole (touched_up_to (length ds) (length log.records) (node_of activity log ss ds leading)) (node_of activity log ss ds leading) ≡ node_of activity log (all_at (length log.records)) (marked_to_end ss log.records ds) leading
-redo_after activity log ss ds leading =
-    let r = node_of activity log ss ds leading in
-    let test = λ (p : ℕ). list_any (touches (length ds) p) (after_to (applied_of r p) (length log.records) log.records) in
-    ap (λ (s : Replica). record s { stripes = all_at (length log.records) })
-    (redone_where activity log ss ds leading (touched_up_to (length ds) (length log.records) r) (is_touched_after (length ds) ss log.records)
-    (λ p l h. contains-filter test p 16 (length ds) l h ∙ ap (list_any (touches (length ds) p)) (after_end log.records (applied_of r p))))
+pub redo_after : (h : Home) (ss : List Stripe) (leading : Leading) → IsHome h
+    → (let r = node_of h ss leading in redone_whole (touched_up_to h.pages (length h.log.records) r) r) ≡ node_of (dirty_where (stripe_touches h ss (length h.log.records)) h) (all_at (length h.log.records)) leading
+redo_after h ss leading is =
+    let r = node_of h ss leading in
+    let test = stripe_touches h ss (length h.log.records) in
+    ap (λ (s : Replica). record s { stripes = all_at (length h.log.records) })
+    (redone_where h ss leading (touched_up_to h.pages (length h.log.records) r) test is.sound (λ p l k. contains-filter test p 16 h.pages l (omega (arith, k, is.each_flag))))
 
-pub redoes_is : (activity : Activity) (log : Log) (ss : List Stripe) (ds : List Bool) (leading : Leading) →
-    (let r = node_of activity log ss ds leading in redoes_touching (length ds) r (touched_up_to (length ds) (end r) r))
-    ≡ record { answer = Front (length log.records); writes = []; out = []; after = node_of activity log (all_at (length log.records)) (marked_to_end ss log.records ds) leading }
-redoes_is activity log ss ds leading =
-    let r = node_of activity log ss ds leading in
-    let touched = touched_up_to (length ds) (length log.records) r in
-    let after = node_of activity log (all_at (length log.records)) (marked_to_end ss log.records ds) leading in
-    let applied : redone_whole touched r ≡ after = redo_after activity log ss ds leading in
-    ap (redoes r (redone_whole touched r) touched) (ap (due_pages (length ds)) applied ∙ nothing_due after (marked_to_end ss log.records ds) (length ds) refl)
-    ∙ ap₂ (λ (ns : List Write) (s : Replica). writing (Front (length log.records)) (each_synced (ns ++ [])) [] s)
-    (no_notes activity log ss ds leading touched)
+pub redoes_is : (h : Home) (ss : List Stripe) (leading : Leading) → IsHome h →
+    (let r = node_of h ss leading in redoes_touching h.pages r (touched_up_to h.pages (end r) r))
+    ≡ record { answer = Front (length h.log.records); writes = []; out = []; after = node_of (dirty_where (stripe_touches h ss (length h.log.records)) h) (all_at (length h.log.records)) leading }
+redoes_is h ss leading is =
+    let r = node_of h ss leading in
+    let touched = touched_up_to h.pages (length h.log.records) r in
+    let marked = dirty_where (stripe_touches h ss (length h.log.records)) h in
+    let after = node_of marked (all_at (length h.log.records)) leading in
+    let applied : redone_whole touched r ≡ after = redo_after h ss leading is in
+    ap (redoes r (redone_whole touched r) touched) (ap (due_pages h.pages) applied ∙ nothing_due after marked.dirty h.pages refl)
+    ∙ ap₂ (λ (ns : List Write) (s : Replica). writing (Front (length h.log.records)) (each_synced (ns ++ [])) [] s)
+    (no_notes h ss leading touched is.sound)
     (installed_none (redone_whole touched r) ∙ applied)
 
 -- a test of those that passed another one
@@ -197,30 +198,33 @@ in_stripe ss pages x high p rs = elim (eqb_tells (stripe_of p) x) [
   | inr e ↦ ap (λ (b : Bool). b && list_any (touches pages p) (after_to (get_or ss (stripe_of p) no_stripe).applied high rs)) e.0 ∙ ap (λ (b : Bool). b && list_any (touches pages p) (after_to (get_or ss x no_stripe).applied high rs)) (sym e.0)
 ]
 
--- the node once a stripe went to an LSN
-pub apply_after : (activity : Activity) (log : Log) (ss : List Stripe) (ds : List Bool) (leading : Leading) (x high : ℕ)
-    → (let r = node_of activity log ss ds leading in applied_one (touched_in_stripe (length ds) r x high) r x high)
-    ≡ node_of activity log (set ss x (record (get_or ss x no_stripe) { applied = high })) (marked_of (Some x) (after_to (get_or ss x no_stripe).applied high log.records) ds) leading
-apply_after activity log ss ds leading x high =
-    let r = node_of activity log ss ds leading in
-    let touched = λ (p : ℕ). list_any (touches (length ds) p) (after_to (applied_of r p) high log.records) in
-    let new = after_to (get_or ss x no_stripe).applied high log.records in
-    ap (λ (s : Replica). record s { stripes = set ss x (record (get_or ss x no_stripe) { applied = high }) })
-    (redone_where activity log ss ds leading (touched_in_stripe (length ds) r x high) (λ p. is_of (Some x) p && list_any (touches (length ds) p) new)
-    (λ p l h. contains-filter-filter (λ q. stripe_of q == x) p (filter touched (page_numbers (length ds)))
-    ∙ ap (λ (b : Bool). (stripe_of p == x) && b) (contains-filter touched p 16 (length ds) l h)
-    ∙ in_stripe ss (length ds) x high p log.records))
+-- the pages of a stripe that a record up to an LSN touches
+abbrev pub one_touches : Home → List Stripe → ℕ → ℕ → ℕ → Bool
+one_touches h ss x high p = (stripe_of p == x) && list_any (touches h.pages p) (after_to (get_or ss x no_stripe).applied high h.log.records)
 
-pub applies_is : (activity : Activity) (log : Log) (ss : List Stripe) (ds : List Bool) (leading : Leading) (x high : ℕ) →
-    (let r = node_of activity log ss ds leading in applies_touching (length ds) r x high (touched_in_stripe (length ds) r x high))
-    ≡ record { answer = Applied high; writes = []; out = []; after = node_of activity log (set ss x (record (get_or ss x no_stripe) { applied = high })) (marked_of (Some x) (after_to (get_or ss x no_stripe).applied high log.records) ds) leading }
-applies_is activity log ss ds leading x high =
-    let r = node_of activity log ss ds leading in
-    let touched = touched_in_stripe (length ds) r x high in
-    let flags = marked_of (Some x) (after_to (get_or ss x no_stripe).applied high log.records) ds in
-    let after = node_of activity log (set ss x (record (get_or ss x no_stripe) { applied = high })) flags leading in
-    let applied : applied_one touched r x high ≡ after = apply_after activity log ss ds leading x high in
-    ap (applies r (applied_one touched r x high) touched high) (ap (filter (λ p. stripe_of p == x)) (ap (due_pages (length ds)) applied ∙ nothing_due after flags (length ds) refl))
+-- the node once a stripe went to an LSN
+pub apply_after : (h : Home) (ss : List Stripe) (leading : Leading) (x high : ℕ) → IsHome h
+    → (let r = node_of h ss leading in applied_one (touched_in_stripe h.pages r x high) r x high)
+    ≡ node_of (dirty_where (one_touches h ss x high) h) (set ss x (record (get_or ss x no_stripe) { applied = high })) leading
+apply_after h ss leading x high is =
+    let r = node_of h ss leading in
+    let touched = stripe_touches h ss high in
+    ap (λ (s : Replica). record s { stripes = set ss x (record (get_or ss x no_stripe) { applied = high }) })
+    (redone_where h ss leading (touched_in_stripe h.pages r x high) (one_touches h ss x high) is.sound
+    (λ p l k. contains-filter-filter (λ q. stripe_of q == x) p (filter touched (page_numbers h.pages))
+    ∙ ap (λ (b : Bool). (stripe_of p == x) && b) (contains-filter touched p 16 h.pages l (omega (arith, k, is.each_flag)))
+    ∙ in_stripe ss h.pages x high p h.log.records))
+
+pub applies_is : (h : Home) (ss : List Stripe) (leading : Leading) (x high : ℕ) → IsHome h →
+    (let r = node_of h ss leading in applies_touching h.pages r x high (touched_in_stripe h.pages r x high))
+    ≡ record { answer = Applied high; writes = []; out = []; after = node_of (dirty_where (one_touches h ss x high) h) (set ss x (record (get_or ss x no_stripe) { applied = high })) leading }
+applies_is h ss leading x high is =
+    let r = node_of h ss leading in
+    let touched = touched_in_stripe h.pages r x high in
+    let marked = dirty_where (one_touches h ss x high) h in
+    let after = node_of marked (set ss x (record (get_or ss x no_stripe) { applied = high })) leading in
+    let applied : applied_one touched r x high ≡ after = apply_after h ss leading x high is in
+    ap (applies r (applied_one touched r x high) touched high) (ap (filter (λ p. stripe_of p == x)) (ap (due_pages h.pages) applied ∙ nothing_due after marked.dirty h.pages refl))
     ∙ ap₂ (λ (ns : List Write) (s : Replica). writing (Applied high) (each_synced (ns ++ [])) [] s)
-    (no_notes activity log ss ds leading touched)
+    (no_notes h ss leading touched is.sound)
     (installed_none (applied_one touched r x high) ∙ applied)

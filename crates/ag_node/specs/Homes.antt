@@ -1,51 +1,87 @@
 -- What a node keeps on its disk, and where it stands.
-use Rattle.std.specs.Prelude.{ℕ, ◌+◌, List, Bool, true, false, not, if◌then◌else◌}
+use Rattle.std.specs.Prelude.{◌≡◌, ℕ, ◌+◌, List, length, replicate, get_or, set, Bool, true, false, not, ◌&&◌, ◌==◌, if◌then◌else◌}
+use Rattle.ag_model.specs.declared.answer.Cell.{Cell}
+use Rattle.ag_model.specs.declared.answer.Cell.TheVariants.{Mark}
 use Rattle.ag_model.specs.declared.record.Record.{Record}
 use Rattle.ag_model.specs.declared.record.Log.{Log}
 use Rattle.ag_model.specs.Blocks.{with_block}
+use Rattle.ag_model.specs.Rows.{stripe_of}
 use Rattle.ag_model.specs.Stripes.{opening_log}
+use Rattle.ag_rules.specs.Replica.{least}
 use Rattle.ag_kept.specs.declared.reach.Reach.{Reach}
 use Rattle.ag_kept.specs.declared.reach.Reach.TheVariants.{End, Stop, Fault}
-use Rattle.ag_kept.specs.Kept.{Kept, Seen}
+use Rattle.ag_kept.specs.Kept.{Kept}
+use Rattle.ag_store.specs.Images.{is_touched_between}
+use Rattle.ag_store.specs.declared.fault.ReadFault.{ReadFault}
+use Rattle.ag_store.specs.declared.fault.ReadFault.TheVariants.{TooOld, Gave}
+use Rattle.ag_store.specs.Views.{StoreView, set_where, flushed_cells}
 use Rattle.ag_node.specs.Activity.{Activity}
 
--- where a node stands, the log on its disk, and how often the disk has failed
+-- where a node stands, the log on its disk and the LSN from which redo starts, how many data pages there are, the cells of
+-- their images, to which LSN each stripe was redone, which pages are dirty, and how often the disk has failed
 pub record Home : Type 0 where
   pub activity : Activity
   pub log : Log
+  pub redo : ℕ
+  pub pages : ℕ
+  pub cells : List (List Cell)
+  pub applied : List ℕ
+  pub dirty : List Bool
   pub faults : ℕ
+
+-- images of pages that were never written
+abbrev pub blank_images : ℕ → List (List Cell)
+blank_images pages = replicate pages (replicate 16 (Mark 0))
 
 -- after a fault of its store a node is down, with the log of a group that opens
 abbrev pub lost_kept : Kept
 lost_kept = record { log = opening_log; incarnation = 1; cut = 0; redo = 1; loaded = false }
 
--- what is known of what a store keeps
-abbrev pub known_kept : Seen → Kept
-known_kept s = if s.sound then s.kept else lost_kept
+-- such a store with so many data pages
+abbrev pub lost_store : ℕ → ℕ → StoreView
+lost_store pages faults = record { kept = lost_kept; pages = pages; cells = blank_images pages; applied = replicate 16 1; dirty = replicate pages false; sound = false; faults = faults }
 
--- a node that leads or follows, with what its store keeps
-abbrev pub home_of : Bool → Bool → Seen → Home
-home_of leads follows s = record {
-  activity = record { up = (known_kept s).loaded; leads = leads; follows = follows; incarnation = (known_kept s).incarnation };
-  log = (known_kept s).log;
+-- a node that leads or follows, with what its store shows
+abbrev pub home_with : Bool → Bool → StoreView → Home
+home_with leads follows s = record {
+  activity = record { up = s.kept.loaded; leads = leads; follows = follows; incarnation = s.kept.incarnation };
+  log = s.kept.log;
+  redo = s.kept.redo;
+  pages = s.pages;
+  cells = s.cells;
+  applied = s.applied;
+  dirty = s.dirty;
   faults = s.faults;
 }
 
--- as a group opens, on a disk that has failed so often
-abbrev pub opening_home : Bool → ℕ → Home
-opening_home leads faults = record { activity = record { up = true; leads = leads; follows = not leads; incarnation = 1 }; log = opening_log; faults = faults }
+-- after a fault, with so many data pages, on a disk that has failed so often
+abbrev pub lost_home : ℕ → ℕ → Home
+lost_home pages faults = home_with false false (lost_store pages faults)
 
--- after a fault, on a disk that has failed so often
-abbrev pub lost_home : ℕ → Home
-lost_home faults = record { activity = record { up = false; leads = false; follows = false; incarnation = 1 }; log = opening_log; faults = faults }
+-- a node that leads or follows, with what is known of its store: nothing after a fault, where there are so many data pages
+abbrev pub home_of : Bool → Bool → ℕ → StoreView → Home
+home_of leads follows pages s = if s.sound then home_with leads follows s else lost_home pages s.faults
+
+-- as a group opens with so many data pages, on a disk that has failed so often
+abbrev pub opening_home : ℕ → Bool → ℕ → Home
+opening_home pages leads faults = record {
+  activity = record { up = true; leads = leads; follows = not leads; incarnation = 1 };
+  log = opening_log;
+  redo = 1;
+  pages = pages;
+  cells = blank_images pages;
+  applied = replicate 16 1;
+  dirty = replicate pages false;
+  faults = faults;
+}
 
 -- a node as this, on a disk that has failed so often
 abbrev pub but_faults : Home → ℕ → Home
 but_faults h faults = record h { faults = faults }
 
--- a node that is down
+-- a node that is down: its stripes stand at the redo start, and no page is dirty
 abbrev pub down_home : Home → Home
-down_home h = record h { activity = record h.activity { up = false; leads = false; follows = false } }
+down_home h = record h { activity = record h.activity { up = false; leads = false; follows = false }; applied = replicate 16 h.redo; dirty = replicate h.pages false }
 
 -- a node that leads or doesn't, and doesn't follow
 abbrev pub stands : Bool → Home → Home
@@ -65,8 +101,44 @@ hardened_home h new Fault = down_home h
 abbrev pub raised_home : Home → Home
 raised_home h = record h { activity = record h.activity { incarnation = h.activity.incarnation + 1 } }
 
+-- the pages that a record touches between where their stripe stands and an LSN
+abbrev pub is_touched_to : Home → ℕ → ℕ → Bool
+is_touched_to h lsn page = is_touched_between h.pages h.log.records page (get_or h.applied (stripe_of page) 0) lsn
+
+-- once all stripes were redone to an LSN
+abbrev pub redone_home : Home → ℕ → Home
+redone_home h lsn = record h { applied = replicate 16 lsn; dirty = set_where (is_touched_to h lsn) 16 h.dirty }
+
+-- the pages of a stripe that a record touches between where it stands and an LSN
+abbrev pub is_touched_in : Home → ℕ → ℕ → ℕ → Bool
+is_touched_in h stripe lsn page = (stripe_of page == stripe) && is_touched_between h.pages h.log.records page (get_or h.applied stripe 0) lsn
+
+-- once a stripe was redone to an LSN
+abbrev pub applied_home : Home → ℕ → ℕ → Home
+applied_home h stripe lsn = record h { applied = set h.applied stripe lsn; dirty = set_where (is_touched_in h stripe lsn) 16 h.dirty }
+
+-- once all records after the redo start were redone on clean pages
+abbrev pub caught_up_home : Home → Home
+caught_up_home h = record h {
+  applied = replicate 16 (length h.log.records);
+  dirty = set_where (λ page. is_touched_between h.pages h.log.records page h.redo (length h.log.records)) 16 (replicate h.pages false);
+}
+
+-- a node that is down comes up, and neither leads nor follows
+abbrev pub woken_home : Home → Home
+woken_home h = record h { activity = record h.activity { up = true; incarnation = h.activity.incarnation + 1 } }
+
 -- once a start came so far
 abbrev pub started_home : Home → Reach → Home
-started_home h End = record h { activity = record h.activity { up = true; incarnation = h.activity.incarnation + 1 } }
+started_home h End = caught_up_home (woken_home h)
 started_home h (Stop whole) = if whole then raised_home h else h
 started_home h Fault = h
+
+-- once the dirty pages were written, and the master with the least LSN to which a stripe was redone
+abbrev pub flushed_home : Home → Home
+flushed_home h = record h { redo = least h.applied; cells = flushed_cells h.dirty h.cells; dirty = replicate h.pages false }
+
+-- a row that isn't answered leaves the node as it was where the snapshot is too old, and else lost
+abbrev pub LeavesHome : Home → Home → ReadFault → Type 0
+LeavesHome old new (TooOld snapshot horizon) = new ≡ but_faults old new.faults
+LeavesHome old new (Gave up) = new ≡ lost_home old.pages new.faults

@@ -6,7 +6,6 @@ pub mod Faults
 pub mod Sites
 pub mod Room
 pub mod Folded
-pub mod Marked
 pub mod Nodes
 pub mod Out
 pub mod Suffixes

@@ -1,42 +1,53 @@
 //! What a node keeps on its disk, and where the node stands.
-ghost use Rattle.std.specs.Prelude.{◌≡◌, ◌-◌, ◌+◌, ◌≤◌, ◌<◌, ◌^◌, ℕ, true, false, length, replicate, take, IsTrue, IfOk, IfErr, IfSome, OnOk, OnErr, IsErrOf};
-ghost use Rattle.ag_model.specs.Blocks.{end_of_block, next_end, after_to};
+ghost use Rattle.std.specs.Prelude.{◌≡◌, ◌-◌, ◌+◌, ◌≤◌, ◌<◌, ◌^◌, ℕ, [], true, false, length, get_or, replicate, take, Some, IsTrue, IfOk, IfErr, IfSome, OnOk, OnErr, IsErrOf};
+ghost use Rattle.ag_model.specs.Blocks.{end_of_block, after_to, with_block};
+ghost use Rattle.ag_model.specs.Proper.{IsProper};
+ghost use Rattle.ag_model.specs.Rows.{page_of, stripe_of};
 ghost use Rattle.ag_model.specs.Starts.{last_term};
 ghost use Rattle.ag_model.specs.Sizes.{block_sectors, records_size, free_sectors};
 ghost use Rattle.ag_record.specs.Spelling.{HaveSpelling, ArePayload};
+ghost use Rattle.ag_rules.specs.Replica.{least};
 ghost use Rattle.ag_outside.specs.Counts.{HasRisen};
-ghost use Rattle.ag_outside.specs.Disks.{or_zeros};
 ghost use Rattle.ag_logstore.specs.Stored.{log_end};
 ghost use Rattle.ag_kept.specs.Reaching.{how_far};
-ghost use Rattle.ag_node.specs.Homes.{opening_home, hardened_home, started_home, lost_home, but_faults, stands};
+ghost use Rattle.ag_node.specs.Homes.{opening_home, hardened_home, started_home, lost_home, but_faults, down_home, stands};
 
 use crate::fault::NodeFault;
-use ag_kept::{KeptStore, Reach};
+use ag_kept::Reach;
 use ag_logstore::HardenedLog;
 use ag_model::event::Suffix;
 use ag_model::message::Block;
 use ag_model::record::{Record, RecordList};
 use ag_model::value::NoMemory;
 use ag_outside::disk::Disk;
+use ag_store::Store;
 use std::alloc::Global;
 use std::marker::Model;
 
-/// The log and the master of a node, on its disk, and whether the node leads or follows. It is up while memory has the log.
-/// After a fault nothing is known of the log.
+mod pages;
+
+/// What a node keeps: the log, the master and the images of the pages on its disk, with the pages in memory; and whether the
+/// node leads or follows. It is up while memory has the log. After a fault nothing is known of what it keeps.
 #[derive(Drop)]
 pub(crate) struct Home<D: Disk> {
+    /// Whether it is primary, unless a fault came.
     leads: bool,
-    /// Whether blocks of its primary are hardened here.
+    /// Whether blocks of its primary are hardened here, unless a fault came.
     follows: bool,
-    store: KeptStore<D>,
+    /// How many data pages there are.
+    pages: u16,
+    store: Store<D>,
 }
 
 impl<D: Disk> Model for Home<D> {
+    ghost use Rattle.std.specs.Prelude.{◌≡◌, true};
     ghost use Rattle.ag_node.specs.Homes.{Home, home_of};
 
     ghost Value = { Home };
 
-    ghost view = { λ h. home_of h.leads h.follows h.store };
+    ghost view = { λ h. home_of h.leads h.follows h.pages h.store };
+
+    ghost invariant = { λ h. h.store.sound ≡ true → h.store.pages ≡ h.pages };
 }
 
 impl<D: Disk> Home<D> {
@@ -51,14 +62,17 @@ impl<D: Disk> Home<D> {
     ) -> Result<Home<D>, (NodeFault, D)>
         requires room { log_end ≤ D.size disk }
         requires keeps { IsTrue (D.keeps disk) }
-        requires zeros { (at : ℕ) → or_zeros (D.reads disk at) ≡ replicate 512 0 }
-        ensures home { IfOk result (λ home. home ≡ opening_home leads home.faults) }
+        requires zeros { (at : ℕ) → D.reads disk at ≡ Some (replicate 512 0) }
+        requires low { 16 ≤ pages }
+        requires high { pages ≤ 2048 }
+        ensures home { IfOk result (λ home. home ≡ opening_home pages leads home.faults) }
         ensures fault { IfErr result (λ x. x.0 ≡ NodeFault.DiskFault → HasRisen (D.faults disk) (D.faults x.1)) }
     {
-        match KeptStore::create(alloc, disk, pages, replica) {
+        match Store::create(alloc, disk, pages, replica) {
             Ok(store) => Ok(Home {
                 leads,
                 follows: !leads,
+                pages,
                 store,
             }),
             Err((fault, disk)) => Err((NodeFault::from(fault), disk)),
@@ -84,14 +98,14 @@ impl<D: Disk> Home<D> {
     pub(crate) fn leads(&self) -> bool
         ensures { result ≡ self.now.activity.leads }
     {
-        self.leads
+        self.store.is_sound() && self.leads
     }
 
     /// Whether blocks of its primary are hardened here.
     pub(crate) fn follows(&self) -> bool
         ensures { result ≡ self.now.activity.follows }
     {
-        self.follows
+        self.store.is_sound() && self.follows
     }
 
     /// The log, while the node is up.
@@ -136,16 +150,6 @@ impl<D: Disk> Home<D> {
         self.log().block_from(first)
     }
 
-    /// The end of the first block that ends after an LSN, or this LSN where none does.
-    pub(crate) fn end_after(&self, lsn: u64) -> u64
-        requires up { self.now.activity.up ≡ true }
-        ensures end { result ≡ next_end lsn self.now.log.ends }
-        ensures least { lsn ≤ result }
-        ensures within { lsn ≤ length self.now.log.records → result ≤ length self.now.log.records }
-    {
-        self.log().end_after(lsn)
-    }
-
     /// The records from one LSN to another.
     pub(crate) fn copy_block(
         &self,
@@ -174,7 +178,7 @@ impl<D: Disk> Home<D> {
 
     /// All is lost but the disk.
     pub(crate) fn fall(&mut self)
-        ensures { self.new ≡ record self.old { activity = record self.old.activity { up = false; leads = false; follows = false } } }
+        ensures { self.new ≡ down_home self.old }
     {
         self.leads = false;
         self.follows = false;
@@ -183,21 +187,24 @@ impl<D: Disk> Home<D> {
 
     /// It leads from now on, or doesn't.
     pub(crate) fn stand(&mut self, leads: bool)
+        requires up { self.old.activity.up ≡ true }
         ensures { self.new ≡ stands leads self.old }
     {
         self.leads = leads;
         self.follows = false;
     }
 
-    /// Hardens a block, and tells how far it came. Unless it comes to its end the node is down.
+    /// Hardens a block, and tells how far it came. Unless it comes to its end the node is down. The pages wait for their redo.
     pub(crate) fn harden(&mut self, block: &Block, suffix: &Suffix) -> Result<Reach, NodeFault>
         requires up { self.old.activity.up ≡ true }
         requires first { block.now.first ≡ length self.old.log.records + 1 }
         requires payload { ArePayload block.now.records }
         requires room { block_sectors block.now.records ≤ free_sectors self.old.log }
+        requires proper { IsProper self.old.pages (with_block self.old.log block.now.records) }
         ensures reach { IfOk result (λ r. r ≡ how_far suffix.now (block_sectors block.now.records) 2) }
         ensures home { IfOk result (λ r. self.new ≡ but_faults (hardened_home self.old block.now.records r) self.new.faults) }
-        ensures lost { OnErr result (self.new ≡ lost_home self.new.faults) }
+        ensures later { OnOk result (self.old.faults ≤ self.new.faults) }
+        ensures lost { OnErr result (self.new ≡ lost_home self.old.pages self.new.faults) }
         ensures fault { IsErrOf result NodeFault.DiskFault → HasRisen self.old.faults self.new.faults }
     {
         match self.store.harden(block, suffix) {
@@ -207,22 +214,17 @@ impl<D: Disk> Home<D> {
                 self.follows = false;
                 Ok(reach)
             }
-            Err(fault) => {
-                self.leads = false;
-                self.follows = false;
-                Err(NodeFault::from(fault))
-            }
+            Err(fault) => Err(NodeFault::from(fault)),
         }
     }
 
     /// The incarnation in the master of a node that is down. A node that gave up before answers NoMemory.
     pub(crate) fn incarnation(&mut self) -> Result<u64, NodeFault>
         requires down { self.old.activity.up ≡ false }
-        requires roles { (self.old.activity.leads ≡ false) × (self.old.activity.follows ≡ false) }
         ensures is { IfOk result (λ n. n ≡ self.old.activity.incarnation) }
         ensures home { OnOk result (self.new ≡ but_faults self.old self.new.faults) }
         ensures later { OnOk result (self.old.faults ≤ self.new.faults) }
-        ensures lost { OnErr result (self.new ≡ lost_home self.new.faults) }
+        ensures lost { OnErr result (self.new ≡ lost_home self.old.pages self.new.faults) }
         ensures fault { IsErrOf result NodeFault.DiskFault → HasRisen self.old.faults self.new.faults }
     {
         if !self.store.is_sound() {
@@ -234,15 +236,14 @@ impl<D: Disk> Home<D> {
         }
     }
 
-    /// Starts from the disk, as a node that neither leads nor follows, and tells how far it came. A node that gave up before
-    /// answers NoMemory.
+    /// Starts from the disk, as a node that neither leads nor follows, and tells how far it came. At its end all records after
+    /// the redo start are redone. A node that gave up before answers NoMemory.
     pub(crate) fn start(&mut self, alloc: Global, suffix: &Suffix) -> Result<Reach, NodeFault>
         requires down { self.old.activity.up ≡ false }
-        requires roles { (self.old.activity.leads ≡ false) × (self.old.activity.follows ≡ false) }
         requires small { self.old.activity.incarnation + 1 < 2 ^ 64 }
         ensures reach { IfOk result (λ r. r ≡ how_far suffix.now 1 3) }
         ensures home { IfOk result (λ r. self.new ≡ but_faults (started_home self.old r) self.new.faults) }
-        ensures lost { OnErr result (self.new ≡ lost_home self.new.faults) }
+        ensures lost { OnErr result (self.new ≡ lost_home self.old.pages self.new.faults) }
         ensures fault { IsErrOf result NodeFault.DiskFault → HasRisen self.old.faults self.new.faults }
     {
         if !self.store.is_sound() {

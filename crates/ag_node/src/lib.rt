@@ -4,14 +4,12 @@
 pub mod fault;
 mod home;
 mod listed;
-mod marks;
 pub mod node;
 pub mod opening;
 mod peer;
+mod published;
 mod room;
-mod rows;
 pub mod site;
-mod stripes;
 #[cfg(test)]
 mod tests;
 mod txns;

@@ -1,5 +1,5 @@
 //! One replica.
-ghost use Rattle.std.specs.Prelude.{length, List, ◌≡◌, ◌≤◌, ◌∷◌, [], ℕ, replicate, IsTrue, IfOk, IfErr, true, false, not, if◌then◌else◌, ◌==◌, ◌||◌};
+ghost use Rattle.std.specs.Prelude.{length, List, ◌≡◌, ◌≤◌, ◌∷◌, [], ℕ, replicate, Some, IsTrue, IfOk, IfErr, true, false, not, if◌then◌else◌, ◌==◌, ◌||◌};
 ghost use Rattle.ag_model.specs.declared.record.Record.{Record};
 ghost use Rattle.ag_model.specs.Sizes.{records_size};
 ghost use Rattle.ag_rules.specs.Replica.{end, front, is_reverting};
@@ -7,20 +7,20 @@ ghost use Rattle.ag_rules.specs.Group.{opening_replica};
 ghost use Rattle.ag_rules.specs.Promotion.{log_check};
 ghost use Rattle.ag_rules.specs.Script.{IsConfig};
 ghost use Rattle.ag_outside.specs.Counts.{HasRisen};
-ghost use Rattle.ag_outside.specs.Disks.{or_zeros};
 ghost use Rattle.ag_logstore.specs.Stored.{log_end};
 ghost use Rattle.ag_node.specs.Nodes.{IsRefusedBy};
 
 mod following;
 mod leading;
+mod pages;
 mod starting;
 
 use crate::fault::NodeFault;
 use crate::home::Home;
 use crate::opening::memory_at_opening;
 use crate::peer::PeerState;
+use crate::published::Published;
 use crate::site::Site;
-use crate::stripes::Stripes;
 use ag_logstore::block_sectors_of;
 use ag_model::answer::{Answer, Refusal};
 use ag_model::config::Config;
@@ -38,9 +38,8 @@ const TERM: u64 = 1;
 #[derive(Drop)]
 pub struct Node<D: Disk> {
     home: Home<D>,
-    stripes: Stripes,
-    /// One flag a data page.
-    dirty: Vec<bool>,
+    /// What reads may see of each stripe, while the node is up.
+    published: Published,
     buffer: RecordList,
     /// The bytes of the buffer's records.
     buffered: u64,
@@ -52,16 +51,15 @@ pub struct Node<D: Disk> {
 }
 
 impl<D: Disk> Model for Node<D> {
-    ghost use Rattle.std.specs.Prelude.{length};
     ghost use Rattle.ag_node.specs.Seen.{NodeView};
-    ghost use Rattle.ag_node.specs.View.{node_of};
+    ghost use Rattle.ag_node.specs.View.{node_of, stripes_in};
     ghost use Rattle.ag_node.specs.Nodes.{IsNode, leading_of};
 
     ghost Value = { NodeView };
 
-    ghost view = { λ n. record { replica = node_of n.home.activity n.home.log n.stripes n.dirty.items (leading_of n.buffer n.last_txn n.synced n.peers.items); faults = n.home.faults } };
+    ghost view = { λ n. record { replica = node_of n.home (stripes_in n.home n.published) (leading_of n.buffer n.last_txn n.synced n.peers.items); faults = n.home.faults } };
 
-    ghost invariant = { λ n. IsNode n.home.activity n.home.log n.stripes (length n.dirty.items) n.buffer n.buffered n.last_txn n.used.items };
+    ghost invariant = { λ n. IsNode n.home n.published n.buffer n.buffered n.last_txn n.used.items };
 }
 
 impl<D: Disk> Node<D> {
@@ -108,9 +106,10 @@ impl<D: Disk> Node<D> {
 
     /// The front that reads see, an LSN.
     fn front(&self) -> u64
+        requires up { self.now.replica.up ≡ true }
         ensures { result ≡ front self.now.replica }
     {
-        self.stripes.front()
+        self.published.front()
     }
 
     /// Why the log has no room for a block of these bytes, if it has none.
@@ -139,7 +138,7 @@ impl<D: Disk> Node<D> {
         requires config { IsConfig config.now }
         requires room { log_end ≤ D.size disk }
         requires keeps { IsTrue (D.keeps disk) }
-        requires zeros { (at : ℕ) → or_zeros (D.reads disk at) ≡ replicate 512 0 }
+        requires zeros { (at : ℕ) → D.reads disk at ≡ Some (replicate 512 0) }
         ensures node { IfOk result (λ node. node.replica ≡ opening_replica config.now leads) }
         ensures pages { IfOk result (λ node. length node.replica.pages ≡ config.now.pages) }
         ensures fault { IfErr result (λ x. x.0 ≡ NodeFault.DiskFault → HasRisen (D.faults disk) (D.faults x.1)) }
@@ -151,8 +150,7 @@ impl<D: Disk> Node<D> {
         match Home::opening(alloc, disk, config.pages, number, leads) {
             Ok(home) => Ok(Node {
                 home,
-                stripes: Stripes::all_at(1),
-                dirty: memory.dirty,
+                published: Published::all_at(1),
                 buffer: ListOf::new(alloc),
                 buffered: 0,
                 last_txn: 0,

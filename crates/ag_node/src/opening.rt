@@ -1,5 +1,5 @@
 //! What a primary knows at the opening.
-ghost use Rattle.std.specs.Prelude.{◌≡◌, ◌++◌, [], map, replicate, false, if◌then◌else◌, IfOk, OnOk};
+ghost use Rattle.std.specs.Prelude.{◌≡◌, ◌++◌, [], map, replicate, if◌then◌else◌, IfOk, OnOk};
 ghost use Rattle.ag_rules.specs.Replica.{no_peer};
 ghost use Rattle.ag_rules.specs.Group.{is_waited_for, waited_for, synced_at_opening, opening_peers};
 ghost use Rattle.ag_node.specs.Nodes.{at_opening};
@@ -12,7 +12,6 @@ use std::alloc::{AllocError, Global};
 /// What a node has in memory at the opening.
 #[derive(Drop)]
 pub(crate) struct OpeningMemory {
-    pub(crate) dirty: Vec<bool>,
     pub(crate) synced: u16,
     pub(crate) peers: Vec<PeerState>,
     pub(crate) used: Vec<u32>,
@@ -24,29 +23,16 @@ pub(crate) fn memory_at_opening(
     config: &Config,
     leads: bool,
 ) -> Result<OpeningMemory, NoMemory>
-    ensures dirty { IfOk result (λ memory. memory.dirty.items ≡ replicate config.now.pages false) }
     ensures synced { IfOk result (λ memory. memory.synced ≡ (if leads then synced_at_opening config.now.modes else 0)) }
     ensures peers { IfOk result (λ memory. memory.peers.items ≡ (if leads then opening_peers config.now.modes else [])) }
     ensures used { IfOk result (λ memory. memory.used.items ≡ replicate config.now.pages 0) }
 {
     let (synced, peers) = known_at_opening(alloc, config.modes.as_slice(), leads)?;
     Ok(OpeningMemory {
-        dirty: clean(alloc, config.pages)?,
         synced,
         peers,
         used: unused(alloc, config.pages)?,
     })
-}
-
-/// A flag for each page: none is dirty.
-fn clean(alloc: Global, pages: u16) -> Result<Vec<bool>, AllocError>
-    ensures { IfOk result (λ flags. flags.items ≡ replicate pages false) }
-{
-    let mut flags = Vec::new(alloc);
-    for _ in 0..pages {
-        flags.push(false)?;
-    }
-    Ok(flags)
 }
 
 /// A count for each page: no version takes a byte.

@@ -1,8 +1,8 @@
 //! Which events are built.
-ghost use Rattle.std.specs.Prelude.{◌↔◌, IsTrue};
+ghost use Rattle.std.specs.Prelude.{◌≡◌, ◌↔◌, IsTrue};
 ghost use Rattle.ag_built.specs.Built.{IsBuilt, IsLetter};
 
-use ag_model::event::{Event, Who};
+use ag_model::event::{Event, Suffix, Who};
 
 /// Whether a word is the letter of a replica.
 fn is_letter(who: &Who) -> bool
@@ -12,6 +12,13 @@ fn is_letter(who: &Who) -> bool
         Who::Letter(_) => true,
         Who::Primary => false,
     }
+}
+
+/// Whether an event has no suffix.
+fn is_whole(suffix: &Suffix) -> bool
+    ensures { IsTrue result ↔ (suffix.now ≡ Suffix.Whole) }
+{
+    matches!(suffix, Suffix::Whole)
 }
 
 /// Whether this event is built.
@@ -27,7 +34,10 @@ pub(crate) fn is_built(event: &Event) -> bool
         | Event::Read { node, .. }
         | Event::Crash { node, .. }
         | Event::Start { node, .. }
+        | Event::Page { node, .. }
+        | Event::Sectors { node, .. }
         | Event::Status { node, .. } => is_letter(node),
+        Event::Flush { node, suffix } => is_letter(node) && is_whole(suffix),
         Event::Send { node, to, .. }
         | Event::Deliver { node, to, .. }
         | Event::Repeat { node, to, .. }

@@ -62,6 +62,7 @@ fn reads_scripts(rt: HostRuntime) -> Result<(), Fail> {
             b"harden A fail 1\nset A 5 aa stop 1 0\nread B 0 5 fail 3\nsend A B stop 2 ff\n",
             Ok(4),
         ),
+        (b"page A 21\nsectors B 31 stop 1 0\nflush A\n", Ok(3)),
         (b"harden A stop 0 0\n", bad(10)),
         (b"\n# a\nharden A\nharden C\nharden C\n", bad(13)),
         (b"harden A", bad(10)),
@@ -72,7 +73,7 @@ fn reads_scripts(rt: HostRuntime) -> Result<(), Fail> {
         // not built
         (b"harden @\n", bad(10)),
         (b"send A @\n", bad(10)),
-        (b"flush A\n", bad(10)),
+        (b"flush A fail 1\n", bad(10)),
         (b"begin A\n", bad(10)),
     ];
     for (text, wanted) in table {

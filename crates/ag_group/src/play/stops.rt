@@ -1,5 +1,6 @@
 //! Scenarios in which a node is stopped in a write, or a call of its disk fails.
 
+use super::committed::{Committed, Does, lines};
 use super::tests::{answers, push_number, push_set};
 use std::alloc::{AllocError, Global};
 use std::test::Fail;
@@ -81,18 +82,6 @@ fn a_torn_block_is_cut_off(rt: HostRuntime) -> Result<(), Fail> {
     Ok(())
 }
 
-/// What a line does to the log of its primary.
-#[derive(Clone, Copy, Debug, PartialEq, Eq)]
-enum Does {
-    /// It commits this value of a key.
-    Sets(u32, &'static [u8]),
-    Hardens,
-    /// What isn't hardened is lost.
-    Crashes,
-    Reads(u32),
-    Else,
-}
-
 /// A script in which each kind of event that writes comes.
 const SCRIPT: [(&[u8], Does); 22] = [
     (b"set A 5 aa", Does::Sets(5, b"aa")),
@@ -144,114 +133,12 @@ fn script_with(alloc: Global, at: usize, node: u8, suffix: &[u8]) -> Result<Vec<
     Ok(text)
 }
 
-/// The lines of a text.
-fn lines(alloc: Global, text: &[u8]) -> Result<Vec<Vec<u8>>, AllocError> {
-    let (mut all, mut line) = (Vec::new(alloc), Vec::new(alloc));
-    for byte in text {
-        if *byte == b'\n' {
-            all.push(line)?;
-            line = Vec::new(alloc);
-        } else {
-            line.push(*byte)?;
-        }
-    }
-    Ok(all)
-}
-
-/// How a read of a key is answered at a front, where these rows were committed one after the other from LSN 3 on.
-fn row_text(
-    alloc: Global,
-    rows: &[(u32, &'static [u8])],
-    front: usize,
-    key: u32,
-) -> Result<Vec<u8>, AllocError> {
-    let mut value = None;
-    for (i, (k, v)) in rows.iter().enumerate() {
-        if *k == key && i.wrapping_mul(2).wrapping_add(3) <= front {
-            value = Some(*v);
-        }
-    }
-    let mut text = Vec::new(alloc);
-    match value {
-        Some(value) => {
-            push_number(alloc, &mut text, b"row ", front)?;
-            text.pop();
-            text.push(b' ')?;
-            text.extend_from_slice(value)?;
-        }
-        None => {
-            push_number(alloc, &mut text, b"absent ", front)?;
-            text.pop();
-        }
-    }
-    Ok(text)
-}
-
-/// Whether an answer is that of a read at some front of the log.
-fn is_row(
-    alloc: Global,
-    rows: &[(u32, &'static [u8])],
-    key: u32,
-    answer: &[u8],
-) -> Result<bool, AllocError> {
-    let end = rows.len().wrapping_mul(2).wrapping_add(2);
-    for front in 1..end {
-        if row_text(alloc, rows, front, key)?.as_slice() == answer {
-            return Ok(true);
-        }
-    }
-    Ok(false)
-}
-
-/// What the primary committed, and how much of it stands in its hardened log.
-#[derive(Drop)]
-struct Committed {
-    hardened: Vec<(u32, &'static [u8])>,
-    buffer: Vec<(u32, &'static [u8])>,
-}
-
-impl Committed {
-    /// Follows an answered line, and tells whether the answer is right where the line reads.
-    fn follow(&mut self, alloc: Global, does: Does, answer: &[u8]) -> Result<bool, AllocError> {
-        match does {
-            Does::Sets(key, value) => {
-                if answer.starts_with(b"lsn ") {
-                    self.buffer.push((key, value))?;
-                }
-            }
-            Does::Hardens => {
-                if answer.starts_with(b"hardened ")
-                    || answer == b"stopped 1 step=1 torn=-".as_slice()
-                {
-                    self.hardened.extend_from_slice(self.buffer.as_slice())?;
-                    self.buffer.clear();
-                }
-                if answer.starts_with(b"stopped ") || answer.starts_with(b"device_failed ") {
-                    self.buffer.clear();
-                }
-            }
-            Does::Crashes => self.buffer.clear(),
-            Does::Reads(key) => {
-                return Ok(
-                    answer.starts_with(b"no ")
-                        || is_row(alloc, self.hardened.as_slice(), key, answer)?,
-                );
-            }
-            Does::Else => {}
-        }
-        Ok(true)
-    }
-}
-
 /// Plays the script with a suffix at one line, checks each read, and tells whether the place was reached.
 fn is_reached(alloc: Global, at: usize, node: u8, suffix: &[u8]) -> Result<bool, Fail> {
     let text = script_with(alloc, at, node, suffix)?;
     let told = lines(alloc, answers(alloc, &text)?.as_slice())?;
     let mut told = told.iter();
-    let mut committed = Committed {
-        hardened: Vec::new(alloc),
-        buffer: Vec::new(alloc),
-    };
+    let mut committed = Committed::new(alloc);
     let mut reached = false;
     for (i, (_, does)) in SCRIPT.iter().enumerate() {
         let Some(answer) = told.next() else {

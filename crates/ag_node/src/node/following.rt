@@ -1,5 +1,7 @@
 //! What the events of a secondary do.
 ghost use Rattle.std.specs.Prelude.{◌≡◌, ◌+◌, ◌≤◌, ◌<◌, ◌==◌, ◌∷◌, [], IfOk, OnOk, IsErrOf, IfSome, IfNone, MatchOption, length, false, true};
+ghost use Rattle.ag_model.specs.Blocks.{with_block};
+ghost use Rattle.ag_model.specs.Proper.{IsProper};
 ghost use Rattle.ag_model.specs.Sizes.{block_sectors, free_sectors};
 ghost use Rattle.ag_rules.specs.Replica.{end, front, stripe};
 ghost use Rattle.ag_rules.specs.Promotion.{log_check};
@@ -27,10 +29,8 @@ ghost use Rattle.ag_node.specs.Nodes.{IsRefusedBy};
 
 use super::{Node, TERM, device_failed, down, stopped};
 use crate::fault::NodeFault;
-use crate::marks::{mark, mark_to_end};
-use crate::rows::{horizon_at, row_at};
+use crate::published::Published;
 use crate::site::Site;
-use crate::stripes::Stripes;
 use ag_kept::Reach;
 use ag_logstore::records_size;
 use ag_model::answer::{Answer, Refusal};
@@ -40,97 +40,93 @@ use ag_model::message::{Block, Body, Message};
 use ag_model::record::Record;
 use ag_model::value::{NoMemory, Row};
 use ag_outside::disk::Disk;
+use ag_store::ReadFault;
 use std::alloc::Global;
 
 impl<D: Disk> Node<D> {
     /// `redo` at this replica: every stripe is applied to the end and raised.
     #[tactic(auto, unfolding(ag_rules::specs::RedoEvent::redo_part))]
-    pub fn redo(&mut self, site: &Site) -> Answer
+    pub fn redo(&mut self, site: &Site) -> Result<Answer, NodeFault>
         requires pages { site.now.pages ≡ length self.old.replica.pages }
-        ensures answer { result ≡ (redo_part (here_at site.now) self.old.replica).answer }
-        ensures after { self.new.replica ≡ (redo_part (here_at site.now) self.old.replica).after }
-        ensures writes { (redo_part (here_at site.now) self.old.replica).writes ≡ [] }
+        ensures answer { IfOk result (λ a. a ≡ (redo_part (here_at site.now) self.old.replica).answer) }
+        ensures after { OnOk result (self.new.replica ≡ (redo_part (here_at site.now) self.old.replica).after) }
+        ensures writes { OnOk result ((redo_part (here_at site.now) self.old.replica).writes ≡ []) }
         ensures pages { length self.new.replica.pages ≡ length self.old.replica.pages }
-        ensures faults { self.new.faults ≡ self.old.faults }
+        ensures fault { IsErrOf result NodeFault.DiskFault → HasRisen self.old.faults self.new.faults }
     {
         if !self.is_up() {
-            return down(site);
+            return Ok(down(site));
         }
         if self.leads() {
-            return Answer::No(Refusal::NotSecondary { node: site.number });
+            return Ok(Answer::No(Refusal::NotSecondary { node: site.number }));
         }
-        let lsn = self.redo_all(site.pages);
-        Answer::Front { lsn }
+        let lsn = self.redo_all(site.pages)?;
+        Ok(Answer::Front { lsn })
     }
 
-    /// Applies the log to the pages, to its end.
-    fn redo_all(&mut self, pages: u16) -> u64
+    /// Applies the log to the pages, to its end, and publishes all.
+    fn redo_all(&mut self, pages: u16) -> Result<u64, NodeFault>
         requires pages { pages ≡ length self.old.replica.pages }
         requires up { self.old.replica.up ≡ true }
         requires follows { self.old.replica.leads ≡ false }
-        ensures lsn { result ≡ end self.old.replica }
-        ensures after { self.new.replica ≡ (redoes_touching pages self.old.replica (touched_up_to pages (end self.old.replica) self.old.replica)).after }
-        ensures writes { (redoes_touching pages self.old.replica (touched_up_to pages (end self.old.replica) self.old.replica)).writes ≡ [] }
+        ensures lsn { IfOk result (λ lsn. lsn ≡ end self.old.replica) }
+        ensures after { OnOk result (self.new.replica ≡ (redoes_touching pages self.old.replica (touched_up_to pages (end self.old.replica) self.old.replica)).after) }
+        ensures writes { OnOk result ((redoes_touching pages self.old.replica (touched_up_to pages (end self.old.replica) self.old.replica)).writes ≡ []) }
         ensures pages { length self.new.replica.pages ≡ length self.old.replica.pages }
-        ensures faults { self.new.faults ≡ self.old.faults }
+        ensures fault { IsErrOf result NodeFault.DiskFault → HasRisen self.old.faults self.new.faults }
     {
-        let end = self.home.end();
-        let records = self.home.records();
-        mark_to_end(self.dirty.as_mut_slice(), &self.stripes, records);
-        self.stripes = Stripes::all_at(end);
-        end
+        let lsn = self.home.redo()?;
+        self.published = Published::all_at(lsn);
+        Ok(lsn)
     }
 
     /// `apply` at this replica: a stripe goes through the next block of the log.
     #[tactic(auto, unfolding(ag_rules::specs::ApplyEvent::apply_part))]
-    pub fn apply(&mut self, site: &Site, stripe: u8) -> Answer
+    pub fn apply(&mut self, site: &Site, stripe: u8) -> Result<Answer, NodeFault>
         requires pages { site.now.pages ≡ length self.old.replica.pages }
         requires stripe { stripe < 16 }
-        ensures answer { result ≡ (apply_part (here_at site.now) self.old.replica stripe).answer }
-        ensures after { self.new.replica ≡ (apply_part (here_at site.now) self.old.replica stripe).after }
-        ensures writes { (apply_part (here_at site.now) self.old.replica stripe).writes ≡ [] }
+        ensures answer { IfOk result (λ a. a ≡ (apply_part (here_at site.now) self.old.replica stripe).answer) }
+        ensures after { OnOk result (self.new.replica ≡ (apply_part (here_at site.now) self.old.replica stripe).after) }
+        ensures writes { OnOk result ((apply_part (here_at site.now) self.old.replica stripe).writes ≡ []) }
         ensures pages { length self.new.replica.pages ≡ length self.old.replica.pages }
-        ensures faults { self.new.faults ≡ self.old.faults }
+        ensures fault { IsErrOf result NodeFault.DiskFault → HasRisen self.old.faults self.new.faults }
     {
         if !self.is_up() {
-            return down(site);
+            return Ok(down(site));
         }
         if self.leads() {
-            return Answer::No(Refusal::NotSecondary { node: site.number });
+            return Ok(Answer::No(Refusal::NotSecondary { node: site.number }));
         }
         if self.applied(stripe) == self.end() {
-            return Answer::No(Refusal::Nothing);
+            return Ok(Answer::No(Refusal::Nothing));
         }
-        let lsn = self.apply_next(site.pages, stripe);
-        Answer::Applied { lsn }
+        let lsn = self.apply_next(site.pages, stripe)?;
+        Ok(Answer::Applied { lsn })
     }
 
     /// The LSN to which a stripe has redone.
     fn applied(&self, x: u8) -> u64
-        requires { x < 16 }
+        requires up { self.now.replica.up ≡ true }
+        requires stripe { x < 16 }
         ensures { result ≡ (stripe self.now.replica x).applied }
     {
-        self.stripes.applied(x)
+        self.home.applied(x)
     }
 
     /// Applies the next block of the log to a stripe.
-    fn apply_next(&mut self, pages: u16, x: u8) -> u64
+    fn apply_next(&mut self, pages: u16, x: u8) -> Result<u64, NodeFault>
         requires pages { pages ≡ length self.old.replica.pages }
         requires up { self.old.replica.up ≡ true }
         requires stripe { x < 16 }
         requires follows { self.old.replica.leads ≡ false }
-        ensures lsn { result ≡ next_of_stripe self.old.replica x }
-        ensures after { self.new.replica ≡ (applies_touching pages self.old.replica x (next_of_stripe self.old.replica x) (touched_in_stripe pages self.old.replica x (next_of_stripe self.old.replica x))).after }
-        ensures writes { (applies_touching pages self.old.replica x (next_of_stripe self.old.replica x) (touched_in_stripe pages self.old.replica x (next_of_stripe self.old.replica x))).writes ≡ [] }
+        ensures lsn { IfOk result (λ lsn. lsn ≡ next_of_stripe self.old.replica x) }
+        ensures after { OnOk result (self.new.replica ≡ (applies_touching pages self.old.replica x (next_of_stripe self.old.replica x) (touched_in_stripe pages self.old.replica x (next_of_stripe self.old.replica x))).after) }
+        ensures writes { OnOk result ((applies_touching pages self.old.replica x (next_of_stripe self.old.replica x) (touched_in_stripe pages self.old.replica x (next_of_stripe self.old.replica x))).writes ≡ []) }
         ensures pages { length self.new.replica.pages ≡ length self.old.replica.pages }
-        ensures faults { self.new.faults ≡ self.old.faults }
+        ensures fault { IsErrOf result NodeFault.DiskFault → HasRisen self.old.faults self.new.faults }
     {
-        let applied = self.stripes.applied(x);
-        let next = self.home.end_after(applied);
-        let new = &self.home.records()[applied as usize..next as usize];
-        mark(self.dirty.as_mut_slice(), Some(x), new);
-        self.stripes.apply(x, next);
-        next
+        let lsn = self.home.apply_next(x)?;
+        Ok(lsn)
     }
 
     /// `raise` at this replica: a stripe publishes what it has redone.
@@ -158,37 +154,38 @@ impl<D: Disk> Node<D> {
 
     /// Whether a stripe has published all that it has redone.
     fn is_raised(&self, x: u8) -> bool
-        requires { x < 16 }
+        requires up { self.now.replica.up ≡ true }
+        requires stripe { x < 16 }
         ensures { result ≡ ((stripe self.now.replica x).published == (stripe self.now.replica x).applied) }
     {
-        self.stripes.published(x) == self.stripes.applied(x)
+        self.published.of(x) == self.home.applied(x)
     }
 
     /// Publishes what a stripe has redone.
     fn raise_stripe(&mut self, x: u8) -> u64
+        requires up { self.old.replica.up ≡ true }
         requires stripe { x < 16 }
+        requires follows { self.old.replica.leads ≡ false }
         ensures lsn { result ≡ (stripe self.old.replica x).applied }
         ensures after { self.new.replica ≡ raised self.old.replica x }
         ensures pages { length self.new.replica.pages ≡ length self.old.replica.pages }
         ensures faults { self.new.faults ≡ self.old.faults }
     {
-        self.stripes.raise(x);
-        self.stripes.applied(x)
+        let lsn = self.home.applied(x);
+        self.published.raise(x, lsn);
+        lsn
     }
 
     /// `read` at this replica, for a session with this token.
     #[tactic(auto, unfolding(ag_rules::specs::ReadEvent::read_part))]
-    pub fn read(
-        &self,
-        alloc: Global,
-        site: &Site,
-        token: &Token,
-        key: u32,
-    ) -> Result<Answer, NoMemory>
-        requires pages { site.now.pages ≡ length self.now.replica.pages }
-        ensures answer { IfOk result (λ a. a ≡ (read_part (here_at site.now) self.now.replica token.now key).answer) }
-        ensures left { OnOk result ((read_part (here_at site.now) self.now.replica token.now key).after ≡ self.now.replica) }
-        ensures writes { OnOk result ((read_part (here_at site.now) self.now.replica token.now key).writes ≡ []) }
+    pub fn read(&mut self, site: &Site, token: &Token, key: u32) -> Result<Answer, NodeFault>
+        requires pages { site.now.pages ≡ length self.old.replica.pages }
+        ensures answer { IfOk result (λ a. a ≡ (read_part (here_at site.now) self.old.replica token.now key).answer) }
+        ensures after { OnOk result (self.new.replica ≡ (read_part (here_at site.now) self.old.replica token.now key).after) }
+        ensures left { OnOk result ((read_part (here_at site.now) self.old.replica token.now key).after ≡ self.old.replica) }
+        ensures writes { OnOk result ((read_part (here_at site.now) self.old.replica token.now key).writes ≡ []) }
+        ensures pages { length self.new.replica.pages ≡ length self.old.replica.pages }
+        ensures fault { IsErrOf result NodeFault.DiskFault → HasRisen self.old.faults self.new.faults }
     {
         if !self.is_up() {
             return Ok(down(site));
@@ -209,31 +206,29 @@ impl<D: Disk> Node<D> {
                 seen: token.lsn,
             }));
         }
-        let answer = self.row_at_front(alloc, site, key)?;
+        let answer = self.row_at_front(site, key)?;
         Ok(answer)
     }
 
     /// The row of a key at the front, where its page allows it.
-    fn row_at_front(&self, alloc: Global, site: &Site, key: u32) -> Result<Answer, NoMemory>
-        requires up { self.now.replica.up ≡ true }
-        requires pages { site.now.pages ≡ length self.now.replica.pages }
-        ensures answer { IfOk result (λ a. a ≡ (reads_at (here_at site.now) self.now.replica (front self.now.replica) key).answer) }
-        ensures left { OnOk result ((reads_at (here_at site.now) self.now.replica (front self.now.replica) key).after ≡ self.now.replica) }
-        ensures writes { OnOk result ((reads_at (here_at site.now) self.now.replica (front self.now.replica) key).writes ≡ []) }
+    fn row_at_front(&mut self, site: &Site, key: u32) -> Result<Answer, NodeFault>
+        requires up { self.old.replica.up ≡ true }
+        requires pages { site.now.pages ≡ length self.old.replica.pages }
+        ensures answer { IfOk result (λ a. a ≡ (reads_at (here_at site.now) self.old.replica (front self.old.replica) key).answer) }
+        ensures after { OnOk result (self.new.replica ≡ self.old.replica) }
+        ensures left { OnOk result ((reads_at (here_at site.now) self.old.replica (front self.old.replica) key).after ≡ self.old.replica) }
+        ensures writes { OnOk result ((reads_at (here_at site.now) self.old.replica (front self.old.replica) key).writes ≡ []) }
+        ensures pages { length self.new.replica.pages ≡ length self.old.replica.pages }
+        ensures fault { IsErrOf result NodeFault.DiskFault → HasRisen self.old.faults self.new.faults }
     {
-        let records = self.home.records();
-        let front = self.stripes.front();
-        let page = 16 + (key % u32::from(site.pages)) as u16;
-        let applied = self.stripes.applied((page % 16) as u8);
-        let horizon = horizon_at(site.pages, records, applied as usize, page);
-        if front < horizon {
-            return Ok(Answer::No(Refusal::TooOld {
-                snapshot: front,
-                horizon,
-            }));
+        let front = self.published.front();
+        match self.home.row_at(key, front) {
+            Ok(row) => Ok(row_answer(front, row)),
+            Err(ReadFault::TooOld { snapshot, horizon }) => {
+                Ok(Answer::No(Refusal::TooOld { snapshot, horizon }))
+            }
+            Err(ReadFault::Gave { up }) => Err(NodeFault::from(up)),
         }
-        let row = row_at(alloc, records, front as usize, key)?;
-        Ok(row_answer(front, row))
     }
 
     /// A block comes from a replica, the link back to which may be full: it is hardened where it is the next one. Its write
@@ -249,8 +244,10 @@ impl<D: Disk> Node<D> {
         block: &Block,
         suffix: &Suffix,
     ) -> Result<(Answer, Option<Message>), NodeFault>
+        requires pages { site.now.pages ≡ length self.old.replica.pages }
         requires fits { IsBlock block.now }
         requires whole { IsWhole block.now.records }
+        requires proper { IsProper site.now.pages (block_part (here_at site.now) from self.old.replica full term block.now).after.kept.log }
         ensures answer { IfOk result (λ x. x.0 ≡ (cut_part site.now.pages site.now.number suffix.now self.old.replica (block_part (here_at site.now) from self.old.replica full term block.now)).answer) }
         ensures out { IfOk result (λ x. posting_of from x.1 ≡ (cut_part site.now.pages site.now.number suffix.now self.old.replica (block_part (here_at site.now) from self.old.replica full term block.now)).out) }
         ensures built { IfOk result (λ x. IfSome x.1 IsBuiltMessage) }
@@ -335,30 +332,28 @@ impl<D: Disk> Node<D> {
         requires follows { self.old.replica.leads ≡ false }
         requires next { block.now.first ≡ end self.old.replica + 1 }
         requires room { block_sectors block.now.records ≤ free_sectors self.old.replica.kept.log }
+        requires proper { IsProper (length self.old.replica.pages) (with_block self.old.replica.kept.log block.now.records) }
         ensures reach { IfOk result (λ r. r ≡ how_far suffix.now (block_sectors block.now.records) 2) }
         ensures after { IfOk result (λ r. self.new.replica ≡ (part_reached 0 self.old.replica (hardens_block 0 self.old.replica block.now) (Block_write block.now.records) r).after) }
         ensures pages { length self.new.replica.pages ≡ length self.old.replica.pages }
         ensures fault { IsErrOf result NodeFault.DiskFault → HasRisen self.old.faults self.new.faults }
     {
-        match self.home.harden(block, suffix) {
-            Ok(Reach::End) => Ok(Reach::End),
-            Ok(Reach::Stop { whole }) => {
+        match self.home.harden(block, suffix)? {
+            Reach::End => Ok(Reach::End),
+            Reach::Stop { whole } => {
                 self.fall(alloc);
                 Ok(Reach::Stop { whole })
             }
-            Ok(Reach::Fault) => {
+            Reach::Fault => {
                 self.fall(alloc);
                 Ok(Reach::Fault)
-            }
-            Err(e) => {
-                self.stripes = Stripes::all_at(1);
-                Err(e)
             }
         }
     }
 
     /// The Ack of a replica that has hardened up to an LSN.
     fn ack(&self, hardened: u64) -> Message
+        requires up { self.now.replica.up ≡ true }
         ensures is { result ≡ ack_message self.now.replica hardened }
         ensures built { IsBuiltMessage result }
     {
@@ -366,7 +361,7 @@ impl<D: Disk> Node<D> {
             term: TERM,
             body: Body::Ack {
                 hardened,
-                low: self.stripes.front(),
+                low: self.published.front(),
             },
         }
     }

@@ -3,6 +3,7 @@ ghost use Rattle.std.specs.Prelude.{◌≡◌, ◌+◌, ◌-◌, ◌≤◌, ◌=
 ghost use Rattle.std.specs.List.{AllByRecursion};
 ghost use Rattle.ag_model.specs.Sizes.{records_size as size_of_records, block_sectors, free_sectors};
 ghost use Rattle.ag_model.specs.Blocks.{after_to, with_block};
+ghost use Rattle.ag_model.specs.Proper.{IsProper};
 ghost use Rattle.ag_rules.specs.Plan.{Block_write, refused};
 ghost use Rattle.ag_rules.specs.Replica.{end, fallen, full_end, peer, records, with_peer};
 ghost use Rattle.ag_rules.specs.Promotion.{log_check, is_spent};
@@ -25,10 +26,9 @@ ghost use Rattle.ag_node.specs.Nodes.{IsRefusedBy};
 use super::{Node, TERM, device_failed, down, not_primary, stopped};
 use crate::fault::NodeFault;
 use crate::listed::records_of_set;
-use crate::marks::mark;
+use crate::published::Published;
 use crate::room::{first_full, spend};
 use crate::site::Site;
-use crate::stripes::Stripes;
 use ag_kept::Reach;
 use ag_logstore::records_size;
 use ag_model::answer::{Answer, Refusal};
@@ -128,6 +128,7 @@ impl<D: Disk> Node<D> {
         suffix: &Suffix,
     ) -> Result<Answer, NodeFault>
         requires pages { site.now.pages ≡ length self.old.replica.pages }
+        requires proper { IsProper site.now.pages (harden_part (here_at site.now) self.old.replica).after.kept.log }
         ensures answer { IfOk result (λ a. a ≡ (cut_part site.now.pages site.now.number suffix.now self.old.replica (harden_part (here_at site.now) self.old.replica)).answer) }
         ensures after { OnOk result (self.new.replica ≡ (cut_part site.now.pages site.now.number suffix.now self.old.replica (harden_part (here_at site.now) self.old.replica)).after) }
         ensures pages { length self.new.replica.pages ≡ length self.old.replica.pages }
@@ -196,6 +197,7 @@ impl<D: Disk> Node<D> {
         requires leads { self.old.replica.leads ≡ true }
         requires some { (length self.old.replica.leading.buffer == 0) ≡ false }
         requires room { block_sectors self.old.replica.leading.buffer ≤ free_sectors self.old.replica.kept.log }
+        requires proper { IsProper pages (with_block self.old.replica.kept.log self.old.replica.leading.buffer) }
         ensures reach { IfOk result (λ r. r ≡ how_far suffix.now (block_sectors self.old.replica.leading.buffer) 2) }
         ensures after { IfOk result (λ r. self.new.replica ≡ (part_reached 0 self.old.replica (hardens pages self.old.replica (due_pages pages (hardened_one pages self.old.replica))) (Block_write self.old.replica.leading.buffer) r).after) }
         ensures pages { length self.new.replica.pages ≡ length self.old.replica.pages }
@@ -208,23 +210,19 @@ impl<D: Disk> Node<D> {
             records: mem::replace(&mut self.buffer, ListOf::new(alloc)),
         };
         self.buffered = 0;
-        match self.home.harden(&block, suffix) {
-            Ok(Reach::End) => {
-                mark(self.dirty.as_mut_slice(), None, block.records.as_slice());
-                self.stripes = Stripes::all_at(self.home.end());
+        match self.home.harden(&block, suffix)? {
+            Reach::End => {
+                let end = self.home.redo()?;
+                self.published = Published::all_at(end);
                 Ok(Reach::End)
             }
-            Ok(Reach::Stop { whole }) => {
+            Reach::Stop { whole } => {
                 self.fall(alloc);
                 Ok(Reach::Stop { whole })
             }
-            Ok(Reach::Fault) => {
+            Reach::Fault => {
                 self.fall(alloc);
                 Ok(Reach::Fault)
-            }
-            Err(e) => {
-                self.stripes = Stripes::all_at(1);
-                Err(e)
             }
         }
     }

@@ -1,25 +1,22 @@
 //! Crash, start, and what a replica says of itself.
 ghost use Rattle.std.specs.Prelude.{◌≡◌, ◌+◌, ◌≤◌, ◌<◌, ◌==◌, [], ◌∷◌, false, true, IfOk, OnOk, IsErrOf, IfSome, IfNone, length};
-ghost use Rattle.ag_rules.specs.Replica.{end, fallen, records};
-ghost use Rattle.ag_rules.specs.Plan.{Master_write, refused, written};
-ghost use Rattle.ag_rules.specs.Promotion.{promotion_records};
-ghost use Rattle.ag_rules.specs.Redo.{touched_up_to};
+ghost use Rattle.ag_rules.specs.Replica.{all_at, end, fallen};
+ghost use Rattle.ag_rules.specs.Plan.{Master_write, refused};
 ghost use Rattle.ag_rules.specs.CrashEvent.{crash_part};
-ghost use Rattle.ag_rules.specs.StartEvent.{start_part, started_master, starts_first, starts_second};
+ghost use Rattle.ag_rules.specs.StartEvent.{start_part, started_master};
 ghost use Rattle.ag_rules.specs.LookEvent.{status_part, printed_state, role_of};
 ghost use Rattle.ag_node.specs.Sites.{here_at, here_among};
 ghost use Rattle.ag_outside.specs.Counts.{HasRisen};
 ghost use Rattle.ag_kept.specs.Reaching.{how_far};
-ghost use Rattle.ag_node.specs.Starting.{CanStart, woken_up, asleep};
+ghost use Rattle.ag_node.specs.Starting.{CanStart, leads_up, started_after, started_answer, woken_up};
 ghost use Rattle.ag_node.specs.Suffixes.{cut_part};
 
 use super::{Node, TERM, device_failed, down, stopped};
 use crate::fault::NodeFault;
-use crate::marks::mark_to_end;
 use crate::opening::strangers;
+use crate::published::Published;
 use crate::room::used_in;
 use crate::site::Site;
-use crate::stripes::Stripes;
 use crate::txns::last_txn;
 use ag_cluster::members::has_member;
 use ag_kept::Reach;
@@ -55,8 +52,6 @@ impl<D: Disk> Node<D> {
         ensures faults { self.new.faults ≡ self.old.faults }
     {
         self.home.fall();
-        self.stripes = Stripes::all_at(1);
-        self.dirty.fill(false);
         self.buffer = ListOf::new(alloc);
         self.buffered = 0;
         self.last_txn = 0;
@@ -85,7 +80,7 @@ impl<D: Disk> Node<D> {
         if let Some(why) = self.start_refusal(site, modes)? {
             return Ok(Answer::No(why));
         }
-        match self.start_home(alloc, suffix)? {
+        match self.start_home(alloc, site.pages, suffix)? {
             Reach::End => {
                 let answer = self.start_whole(alloc, site, modes)?;
                 Ok(answer)
@@ -137,34 +132,32 @@ impl<D: Disk> Node<D> {
         ensures later { OnOk result (self.old.faults ≤ self.new.faults) }
         ensures fault { IsErrOf result NodeFault.DiskFault → HasRisen self.old.faults self.new.faults }
     {
-        match self.home.incarnation() {
-            Ok(incarnation) => Ok(incarnation),
-            Err(e) => {
-                self.stripes = Stripes::all_at(1);
-                Err(e)
-            }
-        }
+        let incarnation = self.home.incarnation()?;
+        Ok(incarnation)
     }
 
-    /// Reads the log and the master of a node that is down, and writes the master with the next incarnation.
-    fn start_home(&mut self, alloc: Global, suffix: &Suffix) -> Result<Reach, NodeFault>
+    /// Starts a node that is down from its disk, as a secondary that follows nobody: its log is redone and published.
+    fn start_home(&mut self, alloc: Global, pages: u16, suffix: &Suffix) -> Result<Reach, NodeFault>
+        requires pages { pages ≡ length self.old.replica.pages }
         requires down { self.old.replica.up ≡ false }
         requires few { self.old.replica.kept.master.incarnation < 9223372036854775808 }
         ensures reach { IfOk result (λ r. r ≡ how_far suffix.now 1 3) }
-        ensures after { IfOk result (λ r. self.new.replica ≡ woken_up self.old.replica r) }
+        ensures after { IfOk result (λ r. self.new.replica ≡ woken_up pages self.old.replica r) }
         ensures pages { length self.new.replica.pages ≡ length self.old.replica.pages }
         ensures fault { IsErrOf result NodeFault.DiskFault → HasRisen self.old.faults self.new.faults }
     {
-        match self.home.start(alloc, suffix) {
-            Ok(reach) => Ok(reach),
-            Err(e) => {
-                self.stripes = Stripes::all_at(1);
-                Err(e)
+        match self.home.start(alloc, suffix)? {
+            Reach::End => {
+                let end = self.home.end();
+                self.published = Published::all_at(end);
+                Ok(Reach::End)
             }
+            Reach::Stop { whole } => Ok(Reach::Stop { whole }),
+            Reach::Fault => Ok(Reach::Fault),
         }
     }
 
-    /// Goes on to start, once its master is written.
+    /// Goes on to start, once its log is redone: where the store names it, it leads.
     fn start_whole(
         &mut self,
         alloc: Global,
@@ -172,89 +165,43 @@ impl<D: Disk> Node<D> {
         modes: &[Mode],
     ) -> Result<Answer, NoMemory>
         requires pages { site.now.pages ≡ length self.old.replica.pages }
-        requires term { site.now.store.term ≡ 1 }
         requires up { self.old.replica.up ≡ true }
-        requires leads { self.old.replica.leads ≡ false }
         requires follows { (self.old.replica.state == 1) ≡ false }
-        requires least { 1 ≤ self.old.replica.kept.master.incarnation }
-        requires can { CanStart (asleep self.old.replica) }
-        ensures answer { IfOk result (λ a. a ≡ (start_part (here_among site.now modes.now) (asleep self.old.replica)).answer) }
-        ensures after { OnOk result (self.new.replica ≡ (start_part (here_among site.now modes.now) (asleep self.old.replica)).after) }
+        requires stripes { self.old.replica.stripes ≡ all_at (end self.old.replica) }
+        ensures answer { IfOk result (λ a. a ≡ started_answer (here_among site.now modes.now) self.old.replica) }
+        ensures after { OnOk result (self.new.replica ≡ started_after (here_among site.now modes.now) self.old.replica) }
         ensures pages { length self.new.replica.pages ≡ length self.old.replica.pages }
     {
+        let end = self.end();
         if site.store.primary == site.number {
-            let answer = self.start_first(alloc, site, modes)?;
-            Ok(answer)
+            self.lead(alloc, site, modes)?;
+            Ok(started(Role::Primary, end))
         } else {
-            Ok(self.start_second(site.pages))
+            Ok(started(Role::Secondary, end))
         }
     }
 
-    /// Starts as a secondary, and redoes the log.
-    fn start_second(&mut self, pages: u16) -> Answer
-        requires pages { pages ≡ length self.old.replica.pages }
-        requires up { self.old.replica.up ≡ true }
-        requires leads { self.old.replica.leads ≡ false }
-        requires follows { (self.old.replica.state == 1) ≡ false }
-        requires least { 1 ≤ self.old.replica.kept.master.incarnation }
-        ensures answer { result ≡ (starts_second (asleep self.old.replica) (touched_up_to pages (end self.old.replica) (asleep self.old.replica))).answer }
-        ensures after { self.new.replica ≡ (starts_second (asleep self.old.replica) (touched_up_to pages (end self.old.replica) (asleep self.old.replica))).after }
-        ensures pages { length self.new.replica.pages ≡ length self.old.replica.pages }
-    {
-        let _ = pages;
-        let end = self.home.end();
-        mark_to_end(
-            self.dirty.as_mut_slice(),
-            &self.stripes,
-            self.home.records(),
-        );
-        self.stripes = Stripes::all_at(end);
-        Answer::Started {
-            role: Role::Secondary,
-            term: TERM,
-            end,
-            front: end,
-        }
-    }
-
-    /// Starts as the primary, whose log has no open transaction, and redoes the log.
-    fn start_first(
-        &mut self,
-        alloc: Global,
-        site: &Site,
-        modes: &[Mode],
-    ) -> Result<Answer, NoMemory>
+    /// Leads from now on. Its log has no open transaction, and nobody is connected.
+    fn lead(&mut self, alloc: Global, site: &Site, modes: &[Mode]) -> Result<(), NoMemory>
         requires pages { site.now.pages ≡ length self.old.replica.pages }
-        requires term { site.now.store.term ≡ 1 }
         requires up { self.old.replica.up ≡ true }
-        requires leads { self.old.replica.leads ≡ false }
         requires follows { (self.old.replica.state == 1) ≡ false }
-        requires least { 1 ≤ self.old.replica.kept.master.incarnation }
-        ensures none { OnOk result (promotion_records site.now.pages 1 (records self.old.replica) ≡ []) }
-        ensures answer { IfOk result (λ a. a ≡ (starts_first (here_among site.now modes.now) (asleep self.old.replica) []).answer) }
-        ensures after { OnOk result (self.new.replica ≡ (starts_first (here_among site.now modes.now) (asleep self.old.replica) []).after) }
+        requires stripes { self.old.replica.stripes ≡ all_at (end self.old.replica) }
+        ensures after { OnOk result (self.new.replica ≡ leads_up (here_among site.now modes.now) self.old.replica) }
         ensures pages { length self.new.replica.pages ≡ length self.old.replica.pages }
     {
-        let end = self.home.end();
         let records = self.home.records();
         let used = used_in(alloc, site.pages, records)?;
         let peers = strangers(alloc, modes.len())?;
         let last = last_txn(records);
-        mark_to_end(self.dirty.as_mut_slice(), &self.stripes, records);
         self.used = used;
         self.peers = peers;
         self.synced = site.store.synced;
         self.last_txn = last;
         self.buffer = ListOf::new(alloc);
         self.buffered = 0;
-        self.stripes = Stripes::all_at(end);
         self.home.stand(true);
-        Ok(Answer::Started {
-            role: Role::Primary,
-            term: TERM,
-            end,
-            front: end,
-        })
+        Ok(())
     }
 
     /// `status` at this replica.
@@ -304,5 +251,17 @@ impl<D: Disk> Node<D> {
         } else {
             1
         }
+    }
+}
+
+/// The answer of a start, where the log ends at this LSN.
+fn started(role: Role, end: u64) -> Answer
+    ensures { result ≡ Answer.Started role 1 end end }
+{
+    Answer::Started {
+        role,
+        term: TERM,
+        end,
+        front: end,
     }
 }

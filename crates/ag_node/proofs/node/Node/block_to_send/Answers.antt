@@ -11,4 +11,4 @@ pub returns-clause-whole : goal.returns-clause-whole
 returns-clause-whole g c =
     let n = c.self.inside in
     subst (λ (x : Replica). IfSome c.block_from.result (λ last. IsWhole (after_to (c.args.first - 1) last (records x)))) (replica_is c.self.view_is)
-    (block_found IsWhole c.block_from.result _ c.args.first n.home.log.ends n.home.log.records c.self.invariant.first.rises c.self.invariant.first.blocks c.block_from.ensures.end)
+    (block_found IsWhole c.block_from.result _ c.args.first n.home.log.ends n.home.log.records c.self.invariant.home.first.rises c.self.invariant.home.first.blocks c.block_from.ensures.end)

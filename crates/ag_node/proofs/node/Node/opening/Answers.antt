@@ -1,5 +1,3 @@
-use Rattle.std.proofs.Common.{ap}
-use Rattle.ag_node.specs.Homes.{Home}
 use Rattle.ag_node.proofs.OpeningSteps.{node_opened}
 use Rattle.ag_node.proofs.node.Node.opening.Goals as goal
 
@@ -7,5 +5,5 @@ pub returns-in-Ok-opening-clause-node : goal.returns-in-Ok-opening-clause-node
 returns-in-Ok-opening-clause-node g c =
     let home = c.in-Ok-opening.home in
     let memory = c.in-Ok.memory in
-    node_opened c.args.config.now c.args.leads home.activity home.log c.all_at.result memory.dirty.items c.new.result memory.synced memory.peers.items
-    (ap (λ (x : Home). x.activity) c.in-Ok-opening.ensures.home) (ap (λ (x : Home). x.log) c.in-Ok-opening.ensures.home) c.all_at.ensures c.in-Ok.ensures.dirty c.new.ensures c.in-Ok.ensures.synced c.in-Ok.ensures.peers
+    node_opened c.args.config.now c.args.leads home c.all_at.result c.new.result memory.synced memory.peers.items
+    c.in-Ok-opening.ensures.home c.all_at.ensures c.new.ensures c.in-Ok.ensures.synced c.in-Ok.ensures.peers

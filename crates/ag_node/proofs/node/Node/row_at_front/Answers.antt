@@ -1,53 +1,54 @@
-use Rattle.std.proofs.Common.{◌+◌, ◌%◌, length, get_or, ap, ◌∙◌, arith}
+use Rattle.std.proofs.Common.{◌≡◌, ◌≤◌, ◌<◌, ℕ, get_or, true, sym, ap, subst, ◌∙◌, arith}
+use Rattle.std.proofs.lemmas.Nat.{mod_below}
 use Rattle.ag_model.specs.Page.{value}
-use Rattle.ag_model.specs.Rows.{rows}
-use Rattle.ag_rules.specs.Replica.{no_stripe}
+use Rattle.ag_model.specs.Rows.{page_of, stripe_of}
+use Rattle.ag_rules.specs.Replica.{Replica, least}
+use Rattle.ag_store.specs.Asking.{IsTooOldBy}
+use Rattle.ag_store.specs.declared.fault.ReadFault.{ReadFault}
 use Rattle.ag_node.specs.Sites.{here_at}
-use Rattle.ag_node.proofs.NodeSteps.{IsHorizon, read_too_old, read_row, read_left, front_within, read_nothing}
-use Rattle.ag_node.proofs.Views.{replica_is}
+use Rattle.ag_node.specs.Nodes.{leading_of}
+use Rattle.ag_node.proofs.NodeSteps.{front_shown, horizon_is, pages_are, read_left, read_nothing, read_row, read_too_old}
+use Rattle.ag_node.proofs.StripesOf.{least_below}
+use Rattle.ag_node.proofs.Views.{on_ok, replica_is}
+use Rattle.ag_node.proofs.node.Node.row_at_front.Goals.{in-Ok, in-Err-TooOld, in-Err-Gave}
 use Rattle.ag_node.proofs.node.Node.row_at_front.Goals as goal
 
-pub row_at-requires : goal.row_at-requires
-row_at-requires g c = let n = c.self.inside in omega (arith, front_within (length n.home.log.records) n.stripes c.self.invariant.sixteen c.self.invariant.redone, c.front-front.ensures, ap length c.records-records.ensures)
-
-pub returns-then-front-horizon-clause-answer : goal.returns-then-front-horizon-clause-answer
-returns-then-front-horizon-clause-answer g c =
+pub row_at-requires-clause-redone : goal.row_at-requires-clause-redone
+row_at-requires-clause-redone g c =
     let n = c.self.inside in
-    let horizon : IsHorizon n.stripes n.home.log (here_at c.args.site.now) c.args.key c.horizon_at-horizon.result = record {
-      applied = c.applied-applied.result;
-      stands = c.applied-applied.ensures ∙ (λ i. (get_or n.stripes ((16 + c.args.key % c.from.ensures i) % 16) no_stripe).applied);
-      is = c.horizon_at-horizon.ensures ∙ (λ i. (value c.args.site.now.pages (c.records-records.ensures i) c.applied-applied.result (16 + c.args.key % c.from.ensures i)).horizon);
-    } in
-    read_too_old n.home.activity n.home.log n.stripes n.dirty.items n.buffer n.last_txn n.synced n.peers.items c.args.self.now.replica (here_at c.args.site.now) c.args.key c.front-front.result c.horizon_at-horizon.result (replica_is c.self.view_is) c.front-front.ensures horizon c.if-front-horizon.true
+    let up : n.home.activity.up ≡ true = ap (λ (x : Replica). x.up) (replica_is c.self.view_is) ∙ c.requires.up in
+    let s : ℕ = stripe_of (page_of n.home.pages c.args.key) in
+    let few : s < 16 = mod_below (page_of n.home.pages c.args.key) 16 (omega arith) in
+    let below : least n.published ≤ get_or n.published s 0 = least_below n.published s (omega (arith, few, c.self.invariant.sixteen)) in
+    omega (arith, c.front-front.ensures, below, c.self.invariant.redone up s)
 
 pub returns-clause-answer : goal.returns-clause-answer
 returns-clause-answer g c =
     let n = c.self.inside in
-    let horizon : IsHorizon n.stripes n.home.log (here_at c.args.site.now) c.args.key c.horizon_at-horizon.result = record {
-      applied = c.applied-applied.result;
-      stands = c.applied-applied.ensures ∙ (λ i. (get_or n.stripes ((16 + c.args.key % c.from.ensures i) % 16) no_stripe).applied);
-      is = c.horizon_at-horizon.ensures ∙ (λ i. (value c.args.site.now.pages (c.records-records.ensures i) c.applied-applied.result (16 + c.args.key % c.from.ensures i)).horizon);
-    } in
-    c.row_answer.ensures
-    ∙ read_row n.home.activity n.home.log n.stripes n.dirty.items n.buffer n.last_txn n.synced n.peers.items c.args.self.now.replica (here_at c.args.site.now) c.args.key c.front-front.result c.horizon_at-horizon.result c.in_ok-row.row
-    (replica_is c.self.view_is) c.front-front.ensures horizon c.if-front-horizon.false (c.in_ok-row.ensures ∙ (λ i. rows (c.records-records.ensures i) c.front-front.result c.args.key))
-
-pub returns-then-front-horizon-clause-left : goal.returns-then-front-horizon-clause-left
-returns-then-front-horizon-clause-left g c =
-    let n = c.self.inside in
-    read_left n.home.activity n.home.log n.stripes n.dirty.items n.buffer n.last_txn n.synced n.peers.items c.args.self.now.replica (here_at c.args.site.now) c.args.key (replica_is c.self.view_is)
+    let home = c.self.invariant.home in
+    let r = c.args.self.now.replica in
+    let here = here_at c.args.site.now in
+    let leading = leading_of n.buffer n.last_txn n.synced n.peers.items in
+    let up : n.home.activity.up ≡ true = ap (λ (x : Replica). x.up) (replica_is c.self.view_is) ∙ c.requires.up in
+    let front = c.front-front.ensures ∙ front_shown n.home n.published home c.self.invariant.sixteen up in
+    let few : here.pages ≡ n.home.pages = pages_are n.home _ leading r here.pages (replica_is c.self.view_is) c.requires.pages home in
+    let horizon = horizon_is n.home n.published leading r here.pages c.args.key (replica_is c.self.view_is) home c.self.invariant.sixteen up few in
+    let page : ℕ = page_of n.home.pages c.args.key in
+    let limit : ℕ = (value n.home.pages n.home.log.records (get_or n.home.applied (stripe_of page) 0) page).horizon in
+    elim c.match-row_at.branch [
+      | in-Ok w ↦ rw w.result-is (w.row_answer.ensures ∙ read_row n.home _ leading r here c.args.key c.front-front.result _ w.in-Ok.row (replica_is c.self.view_is) home front horizon w.in-Ok.ensures.young w.in-Ok.ensures.row)
+      | in-Err-TooOld w ↦
+          let old = subst (λ (x : ReadFault). IsTooOldBy c.front-front.result limit x) w.in-Err-TooOld.field-0-is w.in-Err-TooOld.ensures.too_old in
+          rw w.result-is (read_too_old n.home _ leading r here c.args.key w.in-Err-TooOld.snapshot w.in-Err-TooOld.horizon (replica_is c.self.view_is) home (old.0 ∙ front) (old.1 ∙ horizon) (omega (arith, old.0, old.1, old.2)))
+      | in-Err-Gave w ↦ rw w.result-is tt
+    ]
 
 pub returns-clause-left : goal.returns-clause-left
 returns-clause-left g c =
     let n = c.self.inside in
-    read_left n.home.activity n.home.log n.stripes n.dirty.items n.buffer n.last_txn n.synced n.peers.items c.args.self.now.replica (here_at c.args.site.now) c.args.key (replica_is c.self.view_is)
-
-pub returns-then-front-horizon-clause-writes : goal.returns-then-front-horizon-clause-writes
-returns-then-front-horizon-clause-writes g c =
-    let n = c.self.inside in
-    read_nothing n.home.activity n.home.log n.stripes n.dirty.items n.buffer n.last_txn n.synced n.peers.items c.args.self.now.replica (here_at c.args.site.now) c.args.key (replica_is c.self.view_is)
+    on_ok c.match-row_at.result (read_left n.home _ (leading_of n.buffer n.last_txn n.synced n.peers.items) c.args.self.now.replica (here_at c.args.site.now) c.args.key (replica_is c.self.view_is) c.self.invariant.home)
 
 pub returns-clause-writes : goal.returns-clause-writes
 returns-clause-writes g c =
     let n = c.self.inside in
-    read_nothing n.home.activity n.home.log n.stripes n.dirty.items n.buffer n.last_txn n.synced n.peers.items c.args.self.now.replica (here_at c.args.site.now) c.args.key (replica_is c.self.view_is)
+    on_ok c.match-row_at.result (read_nothing n.home _ (leading_of n.buffer n.last_txn n.synced n.peers.items) c.args.self.now.replica (here_at c.args.site.now) c.args.key (replica_is c.self.view_is) c.self.invariant.home)

@@ -1,0 +1,11 @@
+use Rattle.std.proofs.Common.{◌≡◌, true, ap, sym, ◌∙◌}
+use Rattle.ag_rules.specs.Replica.{Replica, stripe}
+use Rattle.ag_node.proofs.NodeSteps.{stands_at}
+use Rattle.ag_node.proofs.Views.{replica_is}
+use Rattle.ag_node.proofs.node.Node.applied.Goals as goal
+
+pub returns : goal.returns
+returns g c =
+    let n = c.self.inside in
+    let up : n.home.activity.up ≡ true = ap (λ (x : Replica). x.up) (replica_is c.self.view_is) ∙ c.requires.up in
+    c.applied.ensures ∙ sym (stands_at n.home n.published c.args.x c.self.invariant.home c.self.invariant.sixteen up) ∙ ap (λ (r : Replica). (stripe r c.args.x).applied) (replica_is c.self.view_is)
