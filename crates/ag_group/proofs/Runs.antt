@@ -16,6 +16,7 @@ use Rattle.ag_rules.specs.Next.{done}
 use Rattle.ag_rules.specs.Run.{moments_from, answers_of}
 use Rattle.ag_transcript.specs.Transcript.{header_text, line, transcript}
 use Rattle.ag_transcript.specs.Answers.{answer_text}
+use Rattle.ag_law_logs.specs.Reached.{after_events}
 use Rattle.ag_group.specs.Ran.{HasRun, HasRunInPart}
 
 -- what holds of each item holds of the one at an index
@@ -24,20 +25,15 @@ every_at P [] i d h lt = absurd (omega (arith, lt))
 every_at P (x ∷ xs) zero d h lt = h.0
 every_at P (x ∷ xs) (suc i) d h lt = every_at P xs i d h.1 (omega (arith, lt))
 
--- the group after events
-abbrev pub group_after : Group → List Event → Group
-group_after g [] = g
-group_after g (e ∷ es) = group_after (next g e) es
-
 -- the answers to events, from a group on
 abbrev pub answers_from : Group → List Event → List Answer
 answers_from g es = map (λ m. m.answer) (moments_from g es)
 
-group_push : (g : Group) (es : List Event) (e : Event) → group_after g (es ++ e ∷ []) ≡ next (group_after g es) e
+group_push : (g : Group) (es : List Event) (e : Event) → after_events g (es ++ e ∷ []) ≡ next (after_events g es) e
 group_push g [] e = refl
 group_push g (d ∷ es) e = group_push (next g d) es e
 
-answers_push : (g : Group) (es : List Event) (e : Event) → answers_from g (es ++ e ∷ []) ≡ answers_from g es ++ (done (group_after g es) e).answer ∷ []
+answers_push : (g : Group) (es : List Event) (e : Event) → answers_from g (es ++ e ∷ []) ≡ answers_from g es ++ (done (after_events g es) e).answer ∷ []
 answers_push g [] e = refl
 answers_push g (d ∷ es) e = ap (λ (t : List Answer). (done g d).answer ∷ t) (answers_push (next g d) es e)
 
@@ -65,7 +61,7 @@ front_then a b c x y h q = (x ++ q.0, q.1, ap (λ (t : List ℕ). x ++ t) q.2 �
 
 -- the first events are done, and their transcript is written
 pub record SoFar (c : Config) (es : List Event) (i : ℕ) (group : Group) (before now : Option (List ℕ)) : Type 0 where
-  pub group_is : group ≡ group_after (opening c) (take i es)
+  pub group_is : group ≡ after_events (opening c) (take i es)
   pub config : group.config ≡ c
   pub written : Appends before now (transcript c (answers_of c (take i es)))
 
@@ -91,7 +87,7 @@ SoFar-part c es i g a b h = record { count = i; answers = answers_of c (take i e
 one_more : (c : Config) (es : List Event) (i : ℕ) (g : Group) (before b : Option (List ℕ)) (e : Event) (a : Answer) → SoFar c es i g before b → i < length es → e ≡ get_or es i e → IsAllowed g e a → transcript c (answers_of c (take (i + 1) es)) ≡ transcript c (answers_of c (take i es)) ++ answer_line a
 one_more c es i g before b e a h lt is ok =
     let grown : take (i + 1) es ≡ take i es ++ e ∷ [] = take_more es i e lt ∙ ap (λ (x : Event). take i es ++ x ∷ []) (sym is) in
-    let same : (done (group_after (opening c) (take i es)) e).answer ≡ a = ap (λ (x : Group). (done x e).answer) (sym h.group_is) ∙ sym ok in
+    let same : (done (after_events (opening c) (take i es)) e).answer ≡ a = ap (λ (x : Group). (done x e).answer) (sym h.group_is) ∙ sym ok in
     ap (λ (xs : List Event). transcript c (answers_of c xs)) grown
     ∙ ap (λ (bs : List Answer). transcript c bs) (answers_push (opening c) (take i es) e ∙ ap (λ (x : Answer). answers_of c (take i es) ++ x ∷ []) same)
     ∙ transcript_push c (answers_of c (take i es)) a
@@ -100,7 +96,7 @@ pub SoFar-event : (c : Config) (es : List Event) (i : ℕ) (g after_step : Group
 SoFar-event c es i g after_step before b now e a text h lt is ok steps keeps says wrote =
     let grown : take (i + 1) es ≡ take i es ++ e ∷ [] = take_more es i e lt ∙ ap (λ (x : Event). take i es ++ x ∷ []) (sym is) in
     record {
-      group_is = steps ∙ ap (λ (s : Group). next s e) h.group_is ∙ sym (group_push (opening c) (take i es) e) ∙ ap (λ (xs : List Event). group_after (opening c) xs) (sym grown);
+      group_is = steps ∙ ap (λ (s : Group). next s e) h.group_is ∙ sym (group_push (opening c) (take i es) e) ∙ ap (λ (xs : List Event). after_events (opening c) xs) (sym grown);
       config = keeps ∙ h.config;
       written = subst (λ (t : List ℕ). Appends before now t) (sym (one_more c es i g before b e a h lt is ok))
           (Appends-then before b now (transcript c (answers_of c (take i es))) (answer_line a) h.written (subst (λ (t : List ℕ). Appends b now t) says wrote));
