@@ -1,4 +1,3 @@
-pub mod Asof
 pub mod Batches
 pub mod Batching
 pub mod Flushing

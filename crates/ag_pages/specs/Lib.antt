@@ -2,4 +2,3 @@ pub mod Views
 pub mod Reading
 pub mod Redo
 pub mod Flush
-pub mod Standing

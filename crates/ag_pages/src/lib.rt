@@ -3,7 +3,6 @@
 
 mod asking;
 mod flush;
-pub mod laws;
 mod lending;
 mod lent;
 mod pages;
