@@ -5,3 +5,4 @@ pub mod Kept
 pub mod Ending
 pub mod Standing
 pub mod Starting
+pub mod Saving

@@ -8,7 +8,6 @@ mod opening;
 mod reach;
 mod redo_start;
 mod starting;
-mod store;
 
 pub use appending::append;
 pub use fault::KeptFault;
@@ -16,7 +15,6 @@ pub use opening::open;
 pub use reach::{Reach, how_far};
 pub use redo_start::save_redo_start;
 pub use starting::{read_master, start_on};
-pub use store::KeptStore;
 
 #[cfg(test)]
 mod tests;

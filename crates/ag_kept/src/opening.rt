@@ -4,12 +4,14 @@ ghost use Rattle.ag_model.specs.declared.record.Record.TheVariants.{Term};
 ghost use Rattle.ag_record.specs.Spelling.{ArePayload};
 ghost use Rattle.ag_master.specs.Spelling.{HasSpelling};
 ghost use Rattle.ag_outside.specs.Counts.{HasRisen};
+ghost use Rattle.ag_outside.specs.Calls.{TakesAll};
 ghost use Rattle.ag_outside.specs.Disks.{Only};
-ghost use Rattle.ag_outside.specs.Shown.{reads_of, holds_of};
+ghost use Rattle.ag_outside.specs.Shown.{reads_of, holds_of, did_of};
 ghost use Rattle.ag_logstore.specs.Stored.{log_end, no_log};
 ghost use Rattle.ag_logstore.specs.Stores.{IsReady};
 ghost use Rattle.ag_kept.specs.Ending.{IsSettled};
 ghost use Rattle.ag_kept.specs.Kept.{master_of, kept_on, opening_kept, SamePages};
+ghost use Rattle.ag_kept.specs.Saving.{freed, master_piece};
 ghost use Rattle.ag_kept.specs.Standing.{IsAtHome, IsMemory, IsBlank};
 ghost use Rattle.ag_kept.specs.Starting.{with_master};
 
@@ -92,6 +94,7 @@ pub(crate) fn save_freely<D: Disk>(disk: &mut Scripted<D>, master: &Master) -> R
     ensures image { OnOk result (reads_of D.reads disk.new ≡ with_master (reads_of D.reads disk.old) master.now) }
     ensures settled { OnOk result (IsSettled D.keeps disk.old disk.new) }
     ensures durable { OnOk result (Only (reads_of D.reads disk.new) (holds_of D.keeps D.may_hold disk.new)) }
+    ensures calls { OnOk result (TakesAll (did_of D.keeps D.reads D.faults) (freed disk.old) (master_piece master.now ∷ []) disk.new) }
     ensures later { OnOk result (D.faults disk.old.disk ≤ D.faults disk.new.disk) }
     ensures fault { IsErrOf result KeptFault.DiskFault → HasRisen (D.faults disk.old.disk) (D.faults disk.new.disk) }
     ensures size { D.size disk.new.disk ≡ D.size disk.old.disk }

@@ -4,7 +4,8 @@ ghost use Rattle.ag_outside.specs.Counts.{HasRisen};
 ghost use Rattle.ag_outside.specs.Shown.{reads_of};
 ghost use Rattle.ag_logstore.specs.Stored.{log_end};
 ghost use Rattle.ag_logstore.specs.Stores.{StoreView};
-ghost use Rattle.ag_kept.specs.Kept.{kept_on, SamePages};
+ghost use Rattle.ag_kept.specs.Kept.{master_on, kept_on, SamePages};
+ghost use Rattle.ag_kept.specs.Saving.{SavesMaster};
 ghost use Rattle.ag_kept.specs.Standing.{IsAtHome, IsMemory};
 
 use crate::fault::KeptFault;
@@ -22,6 +23,7 @@ pub fn save_redo_start<D: Disk>(disk: &mut Scripted<D>, redo: u64) -> Result<(),
     ensures kept { OnOk result ((loaded : Bool) → kept_on (reads_of D.reads disk.new) loaded ≡ record (kept_on (reads_of D.reads disk.old) loaded) { redo = redo }) }
     ensures memory { OnOk result ((s : StoreView) → IsMemory D.keeps D.reads D.may_hold disk.old s → IsMemory D.keeps D.reads D.may_hold disk.new s) }
     ensures pages { OnOk result (SamePages (reads_of D.reads disk.old) (reads_of D.reads disk.new)) }
+    ensures calls { OnOk result (SavesMaster D.keeps D.reads D.faults disk.old (record (master_on (reads_of D.reads disk.old)) { redo = redo }) disk.new) }
     ensures later { OnOk result (D.faults disk.old.disk ≤ D.faults disk.new.disk) }
     ensures fault { IsErrOf result KeptFault.DiskFault → HasRisen (D.faults disk.old.disk) (D.faults disk.new.disk) }
     ensures size { D.size disk.new.disk ≡ D.size disk.old.disk }

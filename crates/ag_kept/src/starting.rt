@@ -3,8 +3,9 @@ ghost use Rattle.std.specs.Prelude.{◌≡◌, ◌⊎◌, ◌+◌, ◌^◌, ◌�
 ghost use Rattle.std.specs.Option.{MatchOption};
 ghost use Rattle.ag_outside.specs.declared.order.Arm.TheVariants.{Fail};
 ghost use Rattle.ag_outside.specs.Counts.{HasRisen};
+ghost use Rattle.ag_outside.specs.Calls.{IsReadOnly};
 ghost use Rattle.ag_outside.specs.Disks.{Only};
-ghost use Rattle.ag_outside.specs.Shown.{reads_of, holds_of};
+ghost use Rattle.ag_outside.specs.Shown.{reads_of, holds_of, did_of};
 ghost use Rattle.ag_logstore.specs.Stored.{log_end};
 ghost use Rattle.ag_model.specs.Blocks.{cut_at};
 ghost use Rattle.ag_master.specs.Spelling.{IsKept};
@@ -13,6 +14,7 @@ ghost use Rattle.ag_master.specs.declared.master.Master.{Master};
 ghost use Rattle.ag_kept.specs.Ending.{IsSettled, next, MayReach};
 ghost use Rattle.ag_kept.specs.Kept.{master_on, kept_on, started, SamePages};
 ghost use Rattle.ag_kept.specs.Reaching.{how_far};
+ghost use Rattle.ag_kept.specs.Saving.{freed};
 ghost use Rattle.ag_kept.specs.Standing.{IsAtHome, IsMemory};
 ghost use Rattle.ag_kept.specs.Starting.{WasLoaded, raised_master, raised_so_far};
 
@@ -46,6 +48,7 @@ pub fn read_master<D: Disk>(disk: &mut Scripted<D>) -> Result<Master, KeptFault>
     ensures master { IfOk result (λ m. m ≡ master_on (reads_of D.reads disk.old)) }
     ensures same { OnOk result (reads_of D.reads disk.new ≡ reads_of D.reads disk.old) }
     ensures settled { OnOk result (IsSettled D.keeps disk.old disk.new) }
+    ensures calls { OnOk result (IsReadOnly (did_of D.keeps D.reads D.faults) (freed disk.old) disk.new) }
     ensures later { OnOk result (D.faults disk.old.disk ≤ D.faults disk.new.disk) }
     ensures fault { IsErrOf result KeptFault.DiskFault → HasRisen (D.faults disk.old.disk) (D.faults disk.new.disk) }
     ensures size { D.size disk.new.disk ≡ D.size disk.old.disk }

@@ -2,7 +2,8 @@
 ghost use Rattle.std.specs.Prelude.{◌≤◌, IfOk};
 ghost use Rattle.ag_record.specs.Spelling.{ArePayload};
 
-use crate::{KeptFault, KeptStore, Reach, open, read_master, save_redo_start, start_on};
+use crate::tests::store::KeptStore;
+use crate::{KeptFault, Reach, open, read_master, save_redo_start, start_on};
 use ag_logstore::{block_sectors_of, records_size};
 use ag_model::event::Suffix;
 use ag_model::list::ListOf;
@@ -14,6 +15,8 @@ use ag_outside::scripted::Scripted;
 use std::alloc::Global;
 use std::process::Abort;
 use std::test::Fail;
+
+mod store;
 
 /// Every second bit, bit 0 among them.
 const EVERY_SECOND: u64 = 0x5555_5555_5555_5555;

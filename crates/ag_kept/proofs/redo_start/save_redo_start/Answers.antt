@@ -1,6 +1,9 @@
-use Rattle.std.proofs.Common.{◌≡◌, ◌+◌, ◌≤◌, ◌^◌, ◌<◌, IsTrue, sym, ap, ◌∙◌, subst, arith}
+use Rattle.std.proofs.Common.{[], ◌∷◌, ◌≡◌, ◌+◌, ◌≤◌, ◌^◌, ◌<◌, IsTrue, sym, ap, ◌∙◌, subst, arith}
+use Rattle.ag_outside.specs.Calls.{TakesAll}
 use Rattle.ag_outside.specs.Disks.{Image}
-use Rattle.ag_outside.specs.Shown.{reads_of}
+use Rattle.ag_outside.specs.Shown.{reads_of, did_of}
+use Rattle.ag_master.specs.declared.master.Master.{Master}
+use Rattle.ag_kept.specs.Saving.{freed, master_piece}
 use Rattle.ag_kept.proofs.Calls.{risen_before}
 use Rattle.ag_kept.proofs.Homes.{master_leaves_pages}
 use Rattle.ag_kept.proofs.Opened.{both_ok}
@@ -46,3 +49,13 @@ returns-in-Ok-clause-fault g c = λ e.
 
 pub returns-in-Ok-clause-later : goal.returns-in-Ok-clause-later
 returns-in-Ok-clause-later g c = both_ok c.save_freely.result c.save_freely.ensures.later c.save_freely.ensures.later (λ later again. omega (arith, c.in-Ok.ensures.later, later))
+
+pub returns-in-Ok-clause-calls : goal.returns-in-Ok-clause-calls
+returns-in-Ok-clause-calls g c =
+    let d = g.D.Disk in
+    both_ok c.save_freely.result c.save_freely.ensures.calls c.save_freely.ensures.calls
+    (λ took again. record {
+      between = c.read_master.new.disk;
+      read = c.in-Ok.ensures.calls;
+      took = subst (λ (m : Master). TakesAll (did_of d.keeps d.reads d.faults) (freed c.read_master.new.disk) (master_piece (record m { redo = c.args.redo }) ∷ []) c.save_freely.new.disk) c.in-Ok.ensures.master took;
+    })

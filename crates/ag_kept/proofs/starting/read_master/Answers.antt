@@ -1,8 +1,9 @@
 use Rattle.std.proofs.Common.{◌≡◌, IsTrue, Err, refl, sym, ap, ◌∙◌, subst}
 use Rattle.ag_outside.specs.declared.order.Arm.TheVariants.{Free}
+use Rattle.ag_outside.specs.Calls.{IsReadOnly}
 use Rattle.ag_outside.specs.Disks.{or_zeros}
 use Rattle.ag_outside.specs.Scripts.{ScriptedView}
-use Rattle.ag_outside.specs.Shown.{reads_of}
+use Rattle.ag_outside.specs.Shown.{reads_of, did_of}
 use Rattle.ag_master.specs.Loading.{IsLoaded}
 use Rattle.ag_kept.specs.Kept.{master_on}
 use Rattle.ag_kept.proofs.Calls.{read_settles, free_fails}
@@ -41,3 +42,8 @@ pub returns-in-Err-DiskFault-clause-fault : goal.returns-in-Err-DiskFault-clause
 returns-in-Err-DiskFault-clause-fault g c = λ e.
     let d = g.D.Disk in
     free_fails d.keeps d.reads d.faults c.args.disk.now c.arm.new.self c.load.new.disk c.arm.ensures c.requires.home.unsynced (c.load.ensures.broken (c.in-Err-DiskFault.is ∙ ap (λ e. Err e) c.in-Err-DiskFault.field-0-is))
+
+pub returns-in-Ok-clause-calls : goal.returns-in-Ok-clause-calls
+returns-in-Ok-clause-calls g c =
+    let d = g.D.Disk in
+    subst (λ (v : ScriptedView _). IsReadOnly (did_of d.keeps d.reads d.faults) v c.load.new.disk) c.arm.ensures c.in-Ok.ensures.calls

@@ -9,7 +9,7 @@ use Rattle.ag_kept.specs.declared.reach.Reach.{Reach}
 use Rattle.ag_kept.specs.Kept.{Kept, Seen, kept_on, hardened, with_more}
 use Rattle.ag_kept.specs.Standing.{LeavesLog, IsMemory, reached_log}
 use Rattle.ag_kept.proofs.Stores.{log_of, after_home, after_memory, after_kept_end, after_kept_so}
-use Rattle.ag_kept.proofs.store.KeptStore.harden.Goals as goal
+use Rattle.ag_kept.proofs.tests.store.KeptStore.harden.Goals as goal
 
 pub append-requires-clause-first : goal.append-requires-clause-first
 append-requires-clause-first g c =

@@ -1,7 +1,7 @@
 use Rattle.std.proofs.Common.{sym, ap, ◌∙◌}
 use Rattle.ag_kept.specs.Kept.{Seen}
 use Rattle.ag_kept.proofs.Stores.{log_of}
-use Rattle.ag_kept.proofs.store.KeptStore.log.Goals as goal
+use Rattle.ag_kept.proofs.tests.store.KeptStore.log.Goals as goal
 
 pub returns : goal.returns
 returns g c =

@@ -1,4 +1,4 @@
-//! What a replica keeps on its disk, as one value.
+//! A replica's log and master over its disk, as the tests drive them.
 ghost use Rattle.std.specs.Prelude.{◌≡◌, ◌+◌, ◌^◌, ◌≤◌, ◌<◌, ℕ, true, false, length, replicate, IsTrue, IfOk, IfErr, OnOk, OnErr, IsErrOf};
 ghost use Rattle.ag_model.specs.Sizes.{block_sectors, free_sectors};
 ghost use Rattle.ag_record.specs.Spelling.{ArePayload};
@@ -23,7 +23,7 @@ use std::marker::Model;
 
 /// The log and the master of a replica on its disk. While the replica is up memory has the log too.
 #[derive(Drop)]
-pub struct KeptStore<D: Disk> {
+pub(crate) struct KeptStore<D: Disk> {
     disk: Scripted<D>,
     /// The log, while the replica is up.
     memory: Option<LogStore>,
@@ -47,7 +47,7 @@ impl<D: Disk> Model for KeptStore<D> {
 impl<D: Disk> KeptStore<D> {
     /// Opens a store on a disk of zeros, for so many pages and the replica of this number: the block that starts term 1 is
     /// written and synced, and then the master. The disk comes back where that fails.
-    pub fn create(
+    pub(crate) fn create(
         alloc: Global,
         disk: D,
         pages: u16,
@@ -73,7 +73,7 @@ impl<D: Disk> KeptStore<D> {
     }
 
     /// The incarnation in the master of a replica that is down. It is read outside of any order.
-    pub fn incarnation(&mut self) -> Result<u64, KeptFault>
+    pub(crate) fn incarnation(&mut self) -> Result<u64, KeptFault>
         requires sound { self.old.sound ≡ true }
         requires down { self.old.kept.loaded ≡ false }
         ensures is { IfOk result (λ n. n ≡ self.old.kept.incarnation) }
@@ -93,21 +93,21 @@ impl<D: Disk> KeptStore<D> {
     }
 
     /// Whether no fault has come.
-    pub fn is_sound(&self) -> bool
+    pub(crate) fn is_sound(&self) -> bool
         ensures { result ≡ self.now.sound }
     {
         self.is_sound
     }
 
     /// Whether memory has the log.
-    pub fn is_loaded(&self) -> bool
+    pub(crate) fn is_loaded(&self) -> bool
         ensures { result ≡ self.now.kept.loaded }
     {
         self.memory.is_some()
     }
 
     /// The log, where it is in memory.
-    pub fn log(&self) -> &HardenedLog
+    pub(crate) fn log(&self) -> &HardenedLog
         requires sound { self.now.sound ≡ true }
         requires up { self.now.kept.loaded ≡ true }
         ensures { result.now ≡ self.now.kept.log }
@@ -119,14 +119,14 @@ impl<D: Disk> KeptStore<D> {
     }
 
     /// Memory is lost, as in a crash.
-    pub fn fall(&mut self)
+    pub(crate) fn fall(&mut self)
         ensures { self.new ≡ record self.old { kept = forgotten self.old.kept } }
     {
         self.memory = None;
     }
 
     /// Hardens a block, and tells how far it came. Unless it comes to its end, memory is lost.
-    pub fn harden(&mut self, block: &Block, suffix: &Suffix) -> Result<Reach, KeptFault>
+    pub(crate) fn harden(&mut self, block: &Block, suffix: &Suffix) -> Result<Reach, KeptFault>
         requires sound { self.old.sound ≡ true }
         requires up { self.old.kept.loaded ≡ true }
         requires first { block.now.first ≡ length self.old.kept.log.records + 1 }
@@ -157,7 +157,7 @@ impl<D: Disk> KeptStore<D> {
     }
 
     /// The disk below, as it is.
-    pub fn into_disk(self) -> D
+    pub(crate) fn into_disk(self) -> D
         ensures faults { D.faults result ≡ self.faults }
     {
         let KeptStore { disk, .. } = self;
@@ -166,7 +166,7 @@ impl<D: Disk> KeptStore<D> {
 
     /// Starts from the disk: it is synced and read, and the master saved with the next incarnation and the cut at the
     /// log's end. It tells how far it came.
-    pub fn start(&mut self, alloc: Global, suffix: &Suffix) -> Result<Reach, KeptFault>
+    pub(crate) fn start(&mut self, alloc: Global, suffix: &Suffix) -> Result<Reach, KeptFault>
         requires sound { self.old.sound ≡ true }
         requires down { self.old.kept.loaded ≡ false }
         requires small { self.old.kept.incarnation + 1 < 2 ^ 64 }
