@@ -20,11 +20,9 @@ use Rattle.ag_logblock.specs.Fitting.{header_of}
 use Rattle.ag_logstore.specs.Stored.{log_end, IsLogSector}
 use Rattle.ag_logstore.specs.Stores.{StoreView as LogView}
 use Rattle.ag_logstore.proofs.Chains.{region_alone, current_alone}
-use Rattle.ag_outside.specs.declared.order.Arm.TheVariants.{Free}
 use Rattle.ag_page.specs.Home.{found}
-use Rattle.ag_page.specs.Spelling.{IsInRange}
 use Rattle.ag_pagestore.specs.Homes.{told_images}
-use Rattle.ag_pagestore.specs.Places.{image_of, page_cells, IsOutside}
+use Rattle.ag_pagestore.specs.Places.{image_of, page_cells}
 use Rattle.ag_rules.specs.Replica.{least}
 use Rattle.ag_stripe.specs.Ahead.{IsAhead}
 use Rattle.ag_stripe.specs.Answers.{HasNoImage}
@@ -35,9 +33,10 @@ use Rattle.ag_kept.specs.Ending.{IsSettled}
 use Rattle.ag_kept.specs.Kept.{Kept, SamePages, kept_on, master_on}
 use Rattle.ag_kept.specs.Standing.{HasLog, IsAtHome, IsHome, IsMemory}
 use Rattle.ag_kept.specs.Starting.{own_log}
-use Rattle.ag_kept.proofs.Calls.{ordered}
+use Rattle.ag_kept.specs.Saving.{freed}
 use Rattle.ag_kept.proofs.Homes.{home_is, kept_is}
 use Rattle.ag_pages.specs.Views.{PagesView, applied_of, is_dirty, is_page, known_of, slot}
+use Rattle.ag_store.specs.Flushing.{WrotePages}
 use Rattle.ag_store.specs.Images.{IsImageOf}
 use Rattle.ag_store.specs.Standing.{AreAtEnds, AreImages, AreValues, IsDataPage, IsLoaded, IsStore, told_on}
 use Rattle.ag_store.specs.Views.{MemoryView, StoreView, cells_on, flushed_cells, flushed_store, store_on}
@@ -282,79 +281,66 @@ module _ {D : Type 0} (size : D → ℕ) (keeps : D → Bool) (reads : D → Ima
       let parts = and_parts (leb 16 page) (ltb page (16 + m.pages.count)) is_own in
       (leb-true 16 page parts.0, (let lt = ltb-true page (16 + m.pages.count) parts.1 in omega (arith, lt, loaded.count)))
 
--- ---- what the pages promise of a flush over a disk whose order was taken back
+-- ---- what stays where pages were written
 
 home_by : (a b : Image) (page : ℕ) → image_of a page ≡ image_of b page → in_home (told_on a) page ≡ in_home (told_on b) page
 unfolding in_home
 home_by a b page e = ap (λ (sectors : List Content). by_found (found sectors) (in_image page (map bytes_of sectors))) e
 
-pub record WasFlushed {D : Type 0} (keeps : D → Bool) (reads : D → Image) (armed mid : ScriptedView D) (before v : PagesView) : Type 0 where
-  pub clean : (page : ℕ) → is_page before page ≡ true → is_dirty v page ≡ false
-  pub known : (page : ℕ) → is_page before page ≡ true → known_of (told_images (keeps mid.disk) (reads_of reads mid)) v page ≡ known_of (told_images (keeps armed.disk) (reads_of reads armed)) before page
-  pub cells : (page : ℕ) → is_page before page ≡ true → page_cells (reads_of reads mid) page ≡ (if is_dirty before page then written_cells (page_cells (reads_of reads armed) page) else page_cells (reads_of reads armed) page)
-  pub images : (page : ℕ) (w : PageValue) → is_page before page ≡ true → is_dirty before page ≡ true → known_of (told_images (keeps armed.disk) (reads_of reads armed)) before page ≡ Value w → w.page ≡ page → IsInRange w
-      → in_home (Some (image_of (reads_of reads mid))) page ≡ Value w
-  pub other_images : (page : ℕ) → is_page before page ≡ true → is_dirty before page ≡ false → image_of (reads_of reads mid) page ≡ image_of (reads_of reads armed) page
-  pub others : (at : ℕ) → ((page : ℕ) → is_page before page ≡ true → is_dirty before page ≡ true → IsOutside page at) → reads_of reads mid at ≡ reads_of reads armed at
-  pub settled : IsSettled keeps armed mid
+module _ {D : Type 0} (keeps : D → Bool) (reads : D → Image) (old new : ScriptedView D) (before after : PagesView) where
+  pub wrote_freed : (armed : ScriptedView D) → armed ≡ freed old → WrotePages keeps reads armed new before after → WrotePages keeps reads old new before after
+  wrote_freed armed is w =
+      let f : WrotePages keeps reads (freed old) new before after = subst (λ (s : ScriptedView D). WrotePages keeps reads s new before after) is w in
+      record { clean = f.clean; known = f.known; cells = f.cells; images = f.images; other_images = f.other_images; others = f.others }
+
+  module _ (f : WrotePages keeps reads old new before after) (few : before.count ≤ 2048) where
+    below : (page : ℕ) → is_page before page ≡ true → (16 ≤ page) × (page < 2064)
+    below page is_own =
+        let parts = and_parts (leb 16 page) (ltb page (16 + before.count)) is_own in
+        (leb-true 16 page parts.0, (let lt = ltb-true page (16 + before.count) parts.1 in omega (arith, lt, few)))
+
+    pub first_stays : reads_of reads new 0 ≡ reads_of reads old 0
+    first_stays = f.others 0 (λ page is_own dirty. inl (omega arith))
+
+    pub logs_stay : (at : ℕ) → IsLogSector at → reads_of reads new at ≡ reads_of reads old at
+    logs_stay at in_log = f.others at (λ page is_own dirty. (let b = below page is_own in inr (omega (arith, b.1, in_log.0))))
 
 module _ {D : Type 0} (size : D → ℕ) (keeps : D → Bool) (reads : D → Image) (may_hold : D → ℕ → Content → Type 0) (disk : ScriptedView D) (pages : ℕ) (memory : Option MemoryView) (sound : Bool) (m : MemoryView)
     (st : IsStore size keeps reads may_hold disk pages memory sound) (is_sound : sound ≡ true) (has : memory ≡ Some m)
-    (armed mid : ScriptedView D) (v : PagesView) (is : armed ≡ ordered disk Free) (f : WasFlushed keeps reads armed mid m.pages v) where
+    (mid : ScriptedView D) (v : PagesView) (after : IsAtHome keeps reads mid) (f : WrotePages keeps reads disk mid m.pages v) where
   home : IsAtHome keeps reads disk
   home = st.stands is_sound
 
-  same_reads : reads_of reads armed ≡ reads_of reads disk
-  same_reads = ap (λ (s : ScriptedView D). reads_of reads s) is
-
-  keeps_mid : IsTrue (keeps mid.disk)
-  keeps_mid = subst IsTrue (sym (f.settled.keeps_same ∙ ap (λ (s : ScriptedView D). keeps s.disk) is)) home.modelled
-
-  told_armed : told_images (keeps armed.disk) (reads_of reads armed) ≡ told_on (reads_of reads disk)
-  told_armed = ap (λ (s : ScriptedView D). told_images (keeps s.disk) (reads_of reads s)) is ∙ told-is (keeps disk.disk) (reads_of reads disk) home.modelled
+  told : told_images (keeps disk.disk) (reads_of reads disk) ≡ told_on (reads_of reads disk)
+  told = told-is (keeps disk.disk) (reads_of reads disk) home.modelled
 
   own : (page : ℕ) → IsDataPage pages page → is_page m.pages page ≡ true
   own page here = page_is size keeps reads may_hold disk pages memory sound m st is_sound has page here
 
-  known_armed : (page : ℕ) → IsDataPage pages page → known_of (told_images (keeps armed.disk) (reads_of reads armed)) m.pages page ≡ Value (value_now size keeps reads may_hold disk pages memory sound m st is_sound has page)
-  known_armed page here = ap (λ (t : Told). known_of t m.pages page) told_armed ∙ known_at size keeps reads may_hold disk pages memory sound m st is_sound has page here
+  known_now : (page : ℕ) → IsDataPage pages page → known_of (told_images (keeps disk.disk) (reads_of reads disk)) m.pages page ≡ Value (value_now size keeps reads may_hold disk pages memory sound m st is_sound has page)
+  known_now page here = ap (λ (t : Told). known_of t m.pages page) told ∙ known_at size keeps reads may_hold disk pages memory sound m st is_sound has page here
 
   pub clean_then : (page : ℕ) → IsDataPage pages page → is_dirty v page ≡ false
   clean_then page here = f.clean page (own page here)
 
   pub known_then : (page : ℕ) → IsDataPage pages page → known_of (told_on (reads_of reads mid)) v page ≡ known_of (told_on (reads_of reads disk)) m.pages page
-  known_then page here = sym (ap (λ (t : Told). known_of t v page) (told-is (keeps mid.disk) (reads_of reads mid) keeps_mid)) ∙ f.known page (own page here) ∙ ap (λ (t : Told). known_of t m.pages page) told_armed
+  known_then page here = sym (ap (λ (t : Told). known_of t v page) (told-is (keeps mid.disk) (reads_of reads mid) after.modelled)) ∙ f.known page (own page here) ∙ ap (λ (t : Told). known_of t m.pages page) told
 
   pub wrote_then : (page : ℕ) → IsDataPage pages page → is_dirty m.pages page ≡ true → in_home (told_on (reads_of reads mid)) page ≡ known_of (told_on (reads_of reads disk)) m.pages page
   wrote_then page here dirty =
       let kept_log : Log = (kept_on (reads_of reads disk) true).log in
       let n : ℕ = applied_of m.pages (stripe_of page) in
-      f.images page (value_now size keeps reads may_hold disk pages memory sound m st is_sound has page) (own page here) dirty (known_armed page here)
+      f.images page (value_now size keeps reads may_hold disk pages memory sound m st is_sound has page) (own page here) dirty (known_now page here)
       (value_named pages n page kept_log.records)
       (value_in_range pages n page kept_log (proper_of size keeps reads may_hold disk pages memory sound m st is_sound has)
       (log-fits (reads_of reads disk) (master_on (reads_of reads disk)).cut (master_on (reads_of reads disk)).incarnation kept_log home.home.log.is) (omega (arith, here.1, st.high)))
       ∙ sym (known_at size keeps reads may_hold disk pages memory sound m st is_sound has page here)
 
   pub left_then : (page : ℕ) → IsDataPage pages page → is_dirty m.pages page ≡ false → in_home (told_on (reads_of reads mid)) page ≡ in_home (told_on (reads_of reads disk)) page
-  left_then page here clean = home_by (reads_of reads mid) (reads_of reads disk) page (f.other_images page (own page here) clean ∙ ap (λ (i : Image). image_of i page) same_reads)
+  left_then page here clean = home_by (reads_of reads mid) (reads_of reads disk) page (f.other_images page (own page here) clean)
 
   pub cells_then : (page : ℕ) → IsDataPage pages page → page_cells (reads_of reads mid) page ≡ (if is_dirty m.pages page then written_cells (page_cells (reads_of reads disk) page) else page_cells (reads_of reads disk) page)
-  cells_then page here = f.cells page (own page here) ∙ ap (λ (i : Image). if is_dirty m.pages page then written_cells (page_cells i page) else page_cells i page) same_reads
+  cells_then page here = f.cells page (own page here)
 
-  below : (page : ℕ) → is_page m.pages page ≡ true → (16 ≤ page) × (page < 2064)
-  below page is_own =
-      let parts = and_parts (leb 16 page) (ltb page (16 + m.pages.count)) is_own in
-      let count = (loaded_of size keeps reads may_hold disk pages memory sound m st is_sound has).count in
-      (leb-true 16 page parts.0, (let lt = ltb-true page (16 + m.pages.count) parts.1 in omega (arith, lt, count, st.high)))
-
-  pub first_then : reads_of reads mid 0 ≡ reads_of reads disk 0
-  first_then = f.others 0 (λ page is_own dirty. inl (omega arith)) ∙ ap (λ (i : Image). i 0) same_reads
-
-  pub logs_then : (at : ℕ) → IsLogSector at → reads_of reads mid at ≡ reads_of reads disk at
-  logs_then at in_log = f.others at (λ page is_own dirty. (let b = below page is_own in inr (omega (arith, b.1, in_log.0)))) ∙ ap (λ (i : Image). i at) same_reads
-
-  pub settled_then : IsSettled keeps disk mid
-  settled_then = record { unsynced = f.settled.unsynced; keeps_same = f.settled.keeps_same ∙ ap (λ (s : ScriptedView D). keeps s.disk) is }
-
-  pub only_then : ((((page : ℕ) → is_page m.pages page ≡ true → is_dirty m.pages page ≡ false) → Only (reads_of reads armed) (holds_of keeps may_hold armed)) → Only (reads_of reads mid) (holds_of keeps may_hold mid)) → Only (reads_of reads mid) (holds_of keeps may_hold mid)
-  only_then durable = durable (λ none. subst (λ (s : ScriptedView D). Only (reads_of reads s) (holds_of keeps may_hold s)) (sym is) ((loaded_of size keeps reads may_hold disk pages memory sound m st is_sound has).log.ready.synced home.modelled))
+  pub only_then : ((((page : ℕ) → is_page m.pages page ≡ true → is_dirty m.pages page ≡ false) → Only (reads_of reads disk) (holds_of keeps may_hold disk)) → Only (reads_of reads mid) (holds_of keeps may_hold mid)) → Only (reads_of reads mid) (holds_of keeps may_hold mid)
+  only_then durable = durable (λ none. (loaded_of size keeps reads may_hold disk pages memory sound m st is_sound has).log.ready.synced home.modelled)

@@ -17,4 +17,3 @@ pub mod Spelled
 pub mod Ranges
 pub mod Writing
 pub mod Flushes
-pub mod Soundness

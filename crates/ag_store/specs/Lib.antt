@@ -3,3 +3,4 @@ pub mod Views
 pub mod Standing
 pub mod Redoing
 pub mod Asking
+pub mod Flushing

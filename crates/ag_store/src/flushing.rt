@@ -1,9 +1,16 @@
 //! Flush.
-ghost use Rattle.std.specs.Prelude.{◌≡◌, ◌≤◌, true, false, Some, IfOk, OnOk, OnErr, IsErrOf};
+ghost use Rattle.std.specs.Prelude.{◌≡◌, ◌≤◌, ℕ, true, false, Some, IfOk, OnOk, OnErr, IsErrOf};
 ghost use Rattle.ag_outside.specs.Counts.{HasRisen};
-ghost use Rattle.ag_outside.specs.Shown.{reads_of};
+ghost use Rattle.ag_outside.specs.Disks.{Only};
+ghost use Rattle.ag_outside.specs.Shown.{reads_of, holds_of};
+ghost use Rattle.ag_logstore.specs.Stored.{log_end};
 ghost use Rattle.ag_rules.specs.Replica.{least};
-ghost use Rattle.ag_store.specs.Standing.{IsStore};
+ghost use Rattle.ag_stripe.specs.Answers.{HasNoImage};
+ghost use Rattle.ag_kept.specs.Standing.{IsAtHome};
+ghost use Rattle.ag_pages.specs.Flush.{batches};
+ghost use Rattle.ag_pages.specs.Views.{is_page, is_dirty, known_of};
+ghost use Rattle.ag_store.specs.Flushing.{WrotePages, TakesPages, PagesThenMaster};
+ghost use Rattle.ag_store.specs.Standing.{IsStore, told_on};
 ghost use Rattle.ag_store.specs.Views.{flushed_store, store_on};
 
 use crate::memory::Memory;
@@ -13,8 +20,33 @@ use ag_kept::{KeptFault, save_redo_start};
 use ag_outside::disk::Disk;
 use ag_outside::order::Arm;
 use ag_outside::scripted::Scripted;
-use ag_pages::FlushFault;
+use ag_pages::{FlushFault, Pages};
 use ag_stripe::laws::have_images;
+
+/// Writes the dirty pages, outside of any order.
+fn write_pages<D: Disk>(disk: &mut Scripted<D>, pages: &mut Pages) -> Result<(), KeptFault>
+    requires place { log_end ≤ D.size disk.old.disk }
+    requires home { IsAtHome D.keeps D.reads disk.old }
+    requires count { pages.old.count ≤ 2048 }
+    requires images { (page : ℕ) → is_page pages.old page ≡ true → HasNoImage (known_of (told_on (reads_of D.reads disk.old)) pages.old page) → ⊥ }
+    ensures home { OnOk result (IsAtHome D.keeps D.reads disk.new) }
+    ensures wrote { OnOk result (WrotePages D.keeps D.reads disk.old disk.new pages.old pages.new) }
+    ensures calls { OnOk result (TakesPages D.size D.keeps D.reads D.may_hold D.faults disk.old (batches pages.old) disk.new) }
+    ensures durable { OnOk result ((((page : ℕ) → is_page pages.old page ≡ true → is_dirty pages.old page ≡ false) → Only (reads_of D.reads disk.old) (holds_of D.keeps D.may_hold disk.old)) → Only (reads_of D.reads disk.new) (holds_of D.keeps D.may_hold disk.new)) }
+    ensures count { pages.new.count ≡ pages.old.count }
+    ensures applied { pages.new.applied ≡ pages.old.applied }
+    ensures later { OnOk result (D.faults disk.old.disk ≤ D.faults disk.new.disk) }
+    ensures fault { IsErrOf result KeptFault.DiskFault → HasRisen (D.faults disk.old.disk) (D.faults disk.new.disk) }
+    ensures size { D.size disk.new.disk ≡ D.size disk.old.disk }
+{
+    disk.arm(Arm::Free);
+    match pages.flush(disk) {
+        Ok(()) => Ok(()),
+        Err(FlushFault::Disk) => Err(fault_of_read(disk.why())),
+        Err(FlushFault::NoMemory) => Err(KeptFault::NoMemory),
+        Err(FlushFault::Unlawful { .. }) => unreachable!(),
+    }
+}
 
 /// Writes the dirty pages, and then the master with the least LSN to which a stripe was redone.
 fn flush_on<D: Disk>(
@@ -24,6 +56,7 @@ fn flush_on<D: Disk>(
 ) -> Result<Memory, KeptFault>
     requires { IsStore D.size D.keeps D.reads D.may_hold disk.old pages (Some memory) true }
     ensures lsn { IfOk result (λ m. m.redo ≡ least memory.pages.applied) }
+    ensures order { OnOk result (PagesThenMaster D.size D.keeps D.reads D.may_hold D.faults disk.old (batches memory.pages) (least memory.pages.applied) disk.new) }
     ensures store { IfOk result (λ m. IsStore D.size D.keeps D.reads D.may_hold disk.new pages (Some m) true) }
     ensures view { IfOk result (λ m. store_on (reads_of D.reads disk.new) pages (Some m) true 0 ≡ flushed_store (store_on (reads_of D.reads disk.old) pages (Some memory) true 0)) }
     ensures later { OnOk result (D.faults disk.old.disk ≤ D.faults disk.new.disk) }
@@ -32,17 +65,10 @@ fn flush_on<D: Disk>(
 {
     have_images();
     let Memory { log, mut pages, .. } = memory;
-    disk.arm(Arm::Free);
-    match pages.flush(disk) {
-        Ok(()) => {
-            let redo = pages.least_applied();
-            save_redo_start(disk, redo)?;
-            Ok(Memory { log, pages, redo })
-        }
-        Err(FlushFault::Disk) => Err(fault_of_read(disk.why())),
-        Err(FlushFault::NoMemory) => Err(KeptFault::NoMemory),
-        Err(FlushFault::Unlawful { .. }) => unreachable!(),
-    }
+    let redo = pages.least_applied();
+    write_pages(disk, &mut pages)?;
+    save_redo_start(disk, redo)?;
+    Ok(Memory { log, pages, redo })
 }
 
 impl<D: Disk> Store<D> {

@@ -1,7 +1,6 @@
 //! What a replica keeps.
-ghost use Rattle.std.specs.Prelude.{◌≡◌, ◌-◌, [], ◌+◌, ◌^◌, ◌≤◌, ◌<◌, ℕ, Some, true, false, length, get_or, replicate, IsTrue, IfOk, IfErr, OnOk, OnErr, IsErrOf};
+ghost use Rattle.std.specs.Prelude.{◌≡◌, ◌+◌, ◌^◌, ◌≤◌, ◌<◌, ℕ, Some, true, false, length, get_or, replicate, IsTrue, IfOk, IfErr, OnOk, OnErr, IsErrOf};
 ghost use Rattle.ag_model.specs.Blocks.{with_block};
-ghost use Rattle.ag_model.specs.Cells.{is_sound};
 ghost use Rattle.ag_model.specs.Proper.{IsProper};
 ghost use Rattle.ag_model.specs.Sizes.{block_sectors, free_sectors};
 ghost use Rattle.ag_record.specs.Spelling.{ArePayload};
@@ -9,7 +8,6 @@ ghost use Rattle.ag_outside.specs.Counts.{HasRisen};
 ghost use Rattle.ag_logstore.specs.Stored.{log_end};
 ghost use Rattle.ag_rules.specs.Replica.{least};
 ghost use Rattle.ag_kept.specs.Reaching.{how_far};
-ghost use Rattle.ag_store.specs.Standing.{IsDataPage};
 ghost use Rattle.ag_store.specs.Views.{opening_store, fallen_store, hardened_store, started_store};
 
 use crate::memory::Memory;
@@ -100,14 +98,6 @@ impl<D: Disk> Store<D> {
         ensures { result ≡ self.now.sound }
     {
         self.is_sound
-    }
-
-    /// The image of each page is sound. It does nothing at run time.
-    pub fn images_are_sound(&self)
-        requires sound { self.now.sound ≡ true }
-        ensures { (page : ℕ) → IsDataPage self.now.pages page → is_sound (get_or self.now.cells (page - 16) []) ≡ true }
-    {
-        let _ = &self.is_sound;
     }
 
     /// Whether memory has the log and the pages.

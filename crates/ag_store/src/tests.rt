@@ -169,7 +169,6 @@ fn a_page_is_flushed(rt: HostRuntime) -> Result<(), Fail> {
     expect_up(&rt, &store);
     assert_eq!(rt; store.cells_of(21)?, [Cell::Mark(1); 16]);
     expect_up(&rt, &store);
-    store.images_are_sound();
     assert_eq!(rt; marks(&rt, &store), (3, 3, 3));
     store.fall();
     assert_eq!(rt;
