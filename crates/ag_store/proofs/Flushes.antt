@@ -20,14 +20,13 @@ use Rattle.ag_logblock.specs.Fitting.{header_of}
 use Rattle.ag_logstore.specs.Stored.{log_end, IsLogSector}
 use Rattle.ag_logstore.specs.Stores.{StoreView as LogView}
 use Rattle.ag_logstore.proofs.Chains.{region_alone, current_alone}
-use Rattle.ag_page.specs.Home.{found}
 use Rattle.ag_pagestore.specs.Homes.{told_images}
-use Rattle.ag_pagestore.specs.Places.{image_of, page_cells}
+use Rattle.ag_pagestore.specs.Places.{page_cells}
 use Rattle.ag_rules.specs.Replica.{least}
 use Rattle.ag_stripe.specs.Ahead.{IsAhead}
 use Rattle.ag_stripe.specs.Answers.{HasNoImage}
 use Rattle.ag_stripe.specs.Spelled.{AreSpelled}
-use Rattle.ag_stripe.specs.Known.{Known, Told, by_found, bytes_of, in_home, in_image, known_by}
+use Rattle.ag_stripe.specs.Known.{Known, Told, in_home, known_by}
 use Rattle.ag_stripe.specs.Known.Known.{Value}
 use Rattle.ag_kept.specs.Ending.{IsSettled}
 use Rattle.ag_kept.specs.Kept.{Kept, SamePages, kept_on, master_on}
@@ -36,13 +35,13 @@ use Rattle.ag_kept.specs.Starting.{own_log}
 use Rattle.ag_kept.specs.Saving.{freed}
 use Rattle.ag_kept.proofs.Homes.{home_is, kept_is}
 use Rattle.ag_pages.specs.Views.{PagesView, applied_of, is_dirty, is_page, known_of, slot}
-use Rattle.ag_store.specs.Flushing.{WrotePages}
+use Rattle.ag_store.specs.Flushing.{HaveImages, WrotePages}
 use Rattle.ag_store.specs.Images.{IsImageOf}
 use Rattle.ag_store.specs.Standing.{AreAtEnds, AreImages, AreValues, IsDataPage, IsLoaded, IsStore, told_on}
 use Rattle.ag_store.specs.Views.{MemoryView, StoreView, cells_on, flushed_cells, flushed_store, store_on}
 use Rattle.ag_store.proofs.Asked.{known_at, page_is, stands_low, value_now}
 use Rattle.ag_store.proofs.Flags.{map-one, no-flag}
-use Rattle.ag_store.proofs.Pages.{cells-same, home-same}
+use Rattle.ag_store.proofs.Pages.{cells-same, home-by, home-same}
 use Rattle.ag_store.proofs.Ranges.{value_in_range, value_named}
 use Rattle.ag_store.proofs.Spelled.{log-fits, records-spelled}
 use Rattle.ag_store.proofs.Stores.{image_at, loaded_of, proper_of, stripe-low}
@@ -281,11 +280,19 @@ module _ {D : Type 0} (size : D → ℕ) (keeps : D → Bool) (reads : D → Ima
       let parts = and_parts (leb 16 page) (ltb page (16 + m.pages.count)) is_own in
       (leb-true 16 page parts.0, (let lt = ltb-true page (16 + m.pages.count) parts.1 in omega (arith, lt, loaded.count)))
 
--- ---- what stays where pages were written
+-- ---- pages whose images are the same
 
-home_by : (a b : Image) (page : ℕ) → image_of a page ≡ image_of b page → in_home (told_on a) page ≡ in_home (told_on b) page
-unfolding in_home
-home_by a b page e = ap (λ (sectors : List Content). by_found (found sectors) (in_image page (map bytes_of sectors))) e
+page_place : (v : PagesView) → v.count ≤ 2048 → (page : ℕ) → is_page v page ≡ true → (16 ≤ page) × (page < 2064)
+page_place v few page is_own =
+    let parts = and_parts (leb 16 page) (ltb page (16 + v.count)) is_own in
+    (leb-true 16 page parts.0, (let lt = ltb-true page (16 + v.count) parts.1 in omega (arith, lt, few)))
+
+pub still_images : (old now : Image) (v : PagesView) → v.count ≤ 2048 → SamePages old now → HaveImages old v → HaveImages now v
+still_images old now v few same have page is_own none =
+    let place = page_place v few page is_own in
+    have page is_own (subst HasNoImage (known_told (told_on now) (told_on old) page (slot v page).value (home-same old now page same place.0 place.1)) none)
+
+-- ---- what stays where pages were written
 
 module _ {D : Type 0} (keeps : D → Bool) (reads : D → Image) (old new : ScriptedView D) (before after : PagesView) where
   pub wrote_freed : (armed : ScriptedView D) → armed ≡ freed old → WrotePages keeps reads armed new before after → WrotePages keeps reads old new before after
@@ -294,16 +301,11 @@ module _ {D : Type 0} (keeps : D → Bool) (reads : D → Image) (old new : Scri
       record { clean = f.clean; known = f.known; cells = f.cells; images = f.images; other_images = f.other_images; others = f.others }
 
   module _ (f : WrotePages keeps reads old new before after) (few : before.count ≤ 2048) where
-    below : (page : ℕ) → is_page before page ≡ true → (16 ≤ page) × (page < 2064)
-    below page is_own =
-        let parts = and_parts (leb 16 page) (ltb page (16 + before.count)) is_own in
-        (leb-true 16 page parts.0, (let lt = ltb-true page (16 + before.count) parts.1 in omega (arith, lt, few)))
-
     pub first_stays : reads_of reads new 0 ≡ reads_of reads old 0
     first_stays = f.others 0 (λ page is_own dirty. inl (omega arith))
 
     pub logs_stay : (at : ℕ) → IsLogSector at → reads_of reads new at ≡ reads_of reads old at
-    logs_stay at in_log = f.others at (λ page is_own dirty. (let b = below page is_own in inr (omega (arith, b.1, in_log.0))))
+    logs_stay at in_log = f.others at (λ page is_own dirty. (let b = page_place before few page is_own in inr (omega (arith, b.1, in_log.0))))
 
 module _ {D : Type 0} (size : D → ℕ) (keeps : D → Bool) (reads : D → Image) (may_hold : D → ℕ → Content → Type 0) (disk : ScriptedView D) (pages : ℕ) (memory : Option MemoryView) (sound : Bool) (m : MemoryView)
     (st : IsStore size keeps reads may_hold disk pages memory sound) (is_sound : sound ≡ true) (has : memory ≡ Some m)
@@ -337,7 +339,7 @@ module _ {D : Type 0} (size : D → ℕ) (keeps : D → Bool) (reads : D → Ima
       ∙ sym (known_at size keeps reads may_hold disk pages memory sound m st is_sound has page here)
 
   pub left_then : (page : ℕ) → IsDataPage pages page → is_dirty m.pages page ≡ false → in_home (told_on (reads_of reads mid)) page ≡ in_home (told_on (reads_of reads disk)) page
-  left_then page here clean = home_by (reads_of reads mid) (reads_of reads disk) page (f.other_images page (own page here) clean)
+  left_then page here clean = home-by (reads_of reads disk) (reads_of reads mid) page (f.other_images page (own page here) clean)
 
   pub cells_then : (page : ℕ) → IsDataPage pages page → page_cells (reads_of reads mid) page ≡ (if is_dirty m.pages page then written_cells (page_cells (reads_of reads disk) page) else page_cells (reads_of reads disk) page)
   cells_then page here = f.cells page (own page here)

@@ -17,3 +17,4 @@ pub mod Spelled
 pub mod Ranges
 pub mod Writing
 pub mod Flushes
+pub mod Handed

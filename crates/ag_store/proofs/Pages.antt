@@ -18,10 +18,13 @@ pub image-same : (old new : Image) (page : ℕ) → SamePages old new → 16 ≤
 unfolding image_of
 image-same old new page same low high = map-same new old (place page) 16 (λ k from to. same k (omega arith, omega arith))
 
--- what that says
-pub home-same : (old new : Image) (page : ℕ) → SamePages old new → 16 ≤ page → page < 2064 → in_home (told_on new) page ≡ in_home (told_on old) page
+-- what it says
+pub home-by : (old new : Image) (page : ℕ) → image_of new page ≡ image_of old page → in_home (told_on new) page ≡ in_home (told_on old) page
 unfolding in_home
-home-same old new page same low high = ap (λ (sectors : List Content). by_found (found sectors) (in_image page (map bytes_of sectors))) (image-same old new page same low high)
+home-by old new page same = ap (λ (sectors : List Content). by_found (found sectors) (in_image page (map bytes_of sectors))) same
+
+pub home-same : (old new : Image) (page : ℕ) → SamePages old new → 16 ≤ page → page < 2064 → in_home (told_on new) page ≡ in_home (told_on old) page
+home-same old new page same low high = home-by old new page (image-same old new page same low high)
 
 -- the cells of all pages
 pub cells-same : (old new : Image) (pages : ℕ) → SamePages old new → pages ≤ 2048 → cells_on new pages ≡ cells_on old pages

@@ -11,6 +11,7 @@ mod starting;
 mod store;
 
 pub use fault::ReadFault;
+pub use flushing::flush_pages;
 pub use store::Store;
 
 #[cfg(test)]

@@ -1,13 +1,15 @@
 //! What a replica keeps.
-ghost use Rattle.std.specs.Prelude.{◌≡◌, ◌+◌, ◌^◌, ◌≤◌, ◌<◌, ℕ, Some, true, false, length, get_or, replicate, IsTrue, IfOk, IfErr, OnOk, OnErr, IsErrOf};
+ghost use Rattle.std.specs.Prelude.{◌≡◌, ◌+◌, ◌-◌, ◌^◌, ◌≤◌, ◌<◌, ℕ, [], Some, true, false, length, get_or, replicate, IsTrue, IfOk, IfErr, OnOk, OnErr, IsErrOf};
 ghost use Rattle.ag_model.specs.Blocks.{with_block};
 ghost use Rattle.ag_model.specs.Proper.{IsProper};
 ghost use Rattle.ag_model.specs.Sizes.{block_sectors, free_sectors};
 ghost use Rattle.ag_record.specs.Spelling.{ArePayload};
 ghost use Rattle.ag_outside.specs.Counts.{HasRisen};
 ghost use Rattle.ag_logstore.specs.Stored.{log_end};
+ghost use Rattle.ag_pagestore.specs.Places.{page_cells};
 ghost use Rattle.ag_rules.specs.Replica.{least};
 ghost use Rattle.ag_kept.specs.Reaching.{how_far};
+ghost use Rattle.ag_store.specs.Standing.{AreImages, IsDataPage};
 ghost use Rattle.ag_store.specs.Views.{opening_store, fallen_store, hardened_store, started_store};
 
 use crate::memory::Memory;
@@ -86,9 +88,12 @@ impl<D: Disk> Store<D> {
         }
     }
 
-    /// The disk below, as it is.
+    /// The disk below, as it is. Unless a fault has come, the image of each data page on it is sound: it is the page's value at an LSN
+    /// of the log, above which no record up to the redo start touches the page.
     pub fn into_disk(self) -> D
-        ensures { D.faults result ≡ self.faults }
+        ensures faults { D.faults result ≡ self.faults }
+        ensures images { self.sound ≡ true → AreImages self.pages (D.reads result) self.kept self.applied self.dirty }
+        ensures cells { self.sound ≡ true → (page : ℕ) → IsDataPage self.pages page → page_cells (D.reads result) page ≡ get_or self.cells (page - 16) [] }
     {
         self.disk.into_inner()
     }

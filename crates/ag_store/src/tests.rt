@@ -3,7 +3,8 @@ ghost use Rattle.std.specs.Prelude.{◌≡◌, ◌∷◌, [], true, replicate, I
 ghost use Rattle.ag_model.specs.declared.record.Record.TheVariants.{Put, Commit};
 ghost use Rattle.ag_store.specs.Views.{opening_store};
 
-use crate::{ReadFault, Store};
+use crate::memory::Memory;
+use crate::{ReadFault, Store, flush_pages};
 use ag_kept::{KeptFault, Reach};
 use ag_model::answer::Cell;
 use ag_model::event::Suffix;
@@ -11,8 +12,9 @@ use ag_model::list::ListOf;
 use ag_model::message::Block;
 use ag_model::record::Record;
 use ag_model::value::{Change, NoMemory, Row, Value, Version};
-use ag_outside::disk::Disk;
+use ag_outside::disk::{Disk, Found};
 use ag_outside::mem_disk::{MemDisk, SECTORS};
+use ag_stripe::laws::have_images;
 use std::alloc::Global;
 use std::process::Abort;
 use std::test::Fail;
@@ -125,6 +127,36 @@ fn start(
     Ok((reach, incarnation))
 }
 
+/// Flushes the pages of a store that is up by its parts: the redo start, and its disk.
+fn flush_parts(store: Store<MemDisk>) -> Result<(u64, MemDisk), KeptFault>
+    requires sound { store.sound ≡ true }
+    requires up { store.kept.loaded ≡ true }
+{
+    have_images();
+    let Store {
+        mut disk,
+        memory: kept,
+        ..
+    } = store;
+    match kept {
+        None => unreachable!(),
+        Some(memory) => {
+            let Memory { mut pages, .. } = memory;
+            let redo = flush_pages(&mut disk, &mut pages)?;
+            Ok((redo, disk.into_inner()))
+        }
+    }
+}
+
+/// The mark of the first sector of page 21 on a disk, and the last byte of the redo start in its master.
+fn on_disk(rt: &impl Abort, disk: &mut MemDisk) -> (u8, u8) {
+    let mut sector = [0; 512];
+    assert_eq!(rt; disk.read(400, &mut sector), Ok(Found::Bytes));
+    let mark = sector[511];
+    assert_eq!(rt; disk.read(0, &mut sector), Ok(Found::Bytes));
+    (mark, sector[51])
+}
+
 // ---- tests
 
 #[test]
@@ -176,7 +208,51 @@ fn a_page_is_flushed(rt: HostRuntime) -> Result<(), Fail> {
         (Reach::End, 1)
     );
     assert_eq!(rt; row(&rt, &mut store, 3), Ok(Row::Found(value())));
-    assert_eq!(rt; store.into_disk().sectors(), SECTORS);
+    let mut disk = store.into_disk();
+    assert_eq!(rt; disk.sectors(), SECTORS);
+    assert_eq!(rt; on_disk(&rt, &mut disk), (1, 3));
+    Ok(())
+}
+
+#[test]
+fn pages_are_written_before_the_master(rt: HostRuntime) -> Result<(), Fail> {
+    let alloc = rt.alloc();
+    // A flush reads the 16 sectors of page 21 for their marks, hands down its 16 new sectors one by one and syncs; then it reads the master,
+    // writes it and syncs. The call that fails, and then the mark of the page's first sector and the redo start on the disk.
+    let table = [
+        (40, (0, 1)),
+        (41, (0, 1)),
+        (42, (1, 1)),
+        (56, (1, 1)),
+        (57, (1, 1)),
+        (58, (1, 1)),
+        (59, (1, 1)),
+        (60, (1, 3)),
+    ];
+    for (call, want) in table {
+        let mut store = failing(alloc, call)?;
+        assert_eq!(rt; harden(alloc, &mut store, &Suffix::Whole)?, Reach::End);
+        expect_up(&rt, &store);
+        assert_eq!(rt; store.redo()?, 3);
+        expect_up(&rt, &store);
+        assert_eq!(rt; store.flush(), Err(KeptFault::DiskFault), "call {call}");
+        let mut disk = store.into_disk();
+        assert_eq!(rt; on_disk(&rt, &mut disk), want, "call {call}");
+    }
+    Ok(())
+}
+
+#[test]
+fn pages_and_disk_are_flushed_by_themselves(rt: HostRuntime) -> Result<(), Fail> {
+    let alloc = rt.alloc();
+    let mut store = opened(alloc, Vec::new(alloc))?;
+    assert_eq!(rt; harden(alloc, &mut store, &Suffix::Whole)?, Reach::End);
+    expect_up(&rt, &store);
+    assert_eq!(rt; store.redo()?, 3);
+    expect_up(&rt, &store);
+    let (redo, mut disk) = flush_parts(store)?;
+    assert_eq!(rt; redo, 3);
+    assert_eq!(rt; on_disk(&rt, &mut disk), (1, 3));
     Ok(())
 }
 
