@@ -1,15 +1,15 @@
 -- How a start comes so far.
-use Rattle.std.proofs.Common.{◌≡◌, ◌⊎◌, ℕ, ◌+◌, ◌-◌, ◌^◌, ◌<◌, ◌≤◌, List, [], ◌∷◌, length, get_or, replicate, Bool, true, false, IsTrue, eqb, Result, Ok, Err, if◌then◌else◌, refl, sym, ap, ◌∙◌, subst, arith, inl, inr}
-use Rattle.std.specs.Prelude.{IfOk, OnOk, IsErrOf, ◌&&◌}
+use Rattle.std.proofs.Common.{◌≡◌, ℕ, List, [], ◌∷◌, get_or, replicate, Bool, true, false, IsTrue, eqb, if◌then◌else◌, refl, sym, ap, ◌∙◌, arith}
+use Rattle.std.specs.Prelude.{IfOk, IsErrOf, ◌&&◌}
 use Rattle.ag_model.specs.Cells.{keeps as keeps_sector, keeps_all}
 use Rattle.ag_outside.specs.declared.disk.SectorWrite.{SectorWrite}
 use Rattle.ag_outside.specs.declared.order.Arm.TheVariants.{Stop as StopOrder}
 use Rattle.ag_outside.specs.declared.order.Why.{Why}
 use Rattle.ag_outside.specs.declared.order.Why.TheVariants.{Nothing, Stopped, Device, Inner}
 use Rattle.ag_outside.specs.Counts.{HasRisen}
-use Rattle.ag_outside.specs.Disks.{Image, put, put_all, writes}
+use Rattle.ag_outside.specs.Disks.{Image, put, put_all}
 use Rattle.ag_outside.specs.Calls.{Piece}
-use Rattle.ag_outside.specs.Scripts.{ScriptedView, kept}
+use Rattle.ag_outside.specs.Scripts.{ScriptedView}
 use Rattle.ag_outside.specs.Shown.{reads_of}
 use Rattle.ag_master.specs.declared.master.Master.{Master}
 use Rattle.ag_master.specs.declared.sector.Loaded.{Loaded}
@@ -17,10 +17,8 @@ use Rattle.ag_master.specs.declared.sector.Loaded.TheVariants.{Fresh, Is, Other}
 use Rattle.ag_master.specs.Spelling.{fields, spelling, HasSpelling}
 use Rattle.ag_master.specs.Loading.{IsLoaded}
 use Rattle.ag_master.proofs.Fields.{fields-spelling}
-use Rattle.ag_kept.specs.declared.fault.KeptFault.{KeptFault}
 use Rattle.ag_kept.specs.declared.fault.KeptFault.TheVariants.{DiskFault}
 use Rattle.ag_kept.specs.declared.reach.Reach.{Reach}
-use Rattle.ag_kept.specs.declared.reach.Reach.TheVariants.{End, Stop, Fault}
 use Rattle.ag_kept.specs.Ending.{next, IsSettled, EndsBy, MayReach, reach_of}
 use Rattle.ag_kept.specs.Starting.{with_master, raised_so_far}
 use Rattle.ag_kept.proofs.Orders.{count_tells}

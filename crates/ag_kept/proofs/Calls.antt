@@ -1,6 +1,6 @@
 -- What the calls of a scripted disk leave.
-use Rattle.std.proofs.Common.{◌≡◌, ◌⊎◌, ℕ, ◌+◌, ◌-◌, ◌^◌, ◌<◌, ◌≤◌, min, length, List, [], ◌∷◌, ◌++◌, Bool, true, false, IsTrue, Ok, Err, refl, sym, ap, ◌∙◌, subst, arith, inl, inr}
-use Rattle.std.specs.Prelude.{IsErrOf, OnOk}
+use Rattle.std.proofs.Common.{◌≡◌, ◌⊎◌, ℕ, ◌-◌, ◌^◌, ◌≤◌, min, length, List, [], ◌∷◌, ◌++◌, Bool, IsTrue, Ok, Err, refl, sym, ap, ◌∙◌, subst, arith, inl, inr}
+use Rattle.std.specs.Prelude.{IsErrOf}
 use Rattle.std.proofs.lemmas.Bool.{cases_lt}
 use Rattle.ag_outside.specs.declared.disk.DiskError.TheVariants.{Failed}
 use Rattle.ag_outside.specs.declared.order.Arm.{Arm}
@@ -9,9 +9,9 @@ use Rattle.ag_outside.specs.declared.order.Why.{Why}
 use Rattle.ag_outside.specs.declared.order.Why.TheVariants.{Nothing, Stopped, Device, Inner}
 use Rattle.ag_outside.specs.Counts.{HasRisen}
 use Rattle.ag_outside.specs.Disks.{Image, writes, put_all}
-use Rattle.ag_outside.specs.Calls.{Call, Write_call, Read_call, Sync_call, Leads, changing, Piece, BreaksOff, FailsAtRead, TakesAll, FailsOnTheWay, IsReadOnly}
+use Rattle.ag_outside.specs.Calls.{Call, Write_call, Read_call, Sync_call, Leads, changing, Piece, FailsAtRead, TakesAll, FailsOnTheWay, IsReadOnly}
 use Rattle.ag_outside.specs.Scripts.{ScriptedView, kept, overlay, shown}
-use Rattle.ag_outside.specs.Shown.{reads_of, synced_of, Told, ToldAtSync, DidWrite, DidRead, DidSync, did_of}
+use Rattle.ag_outside.specs.Shown.{reads_of, synced_of, Told, ToldAtSync, DidWrite, DidSync, did_of}
 use Rattle.ag_kept.specs.Ending.{next, IsSettled, EndsBy, EndsSync, WentThrough, WasSynced}
 
 -- a rise stays one, seen from before or after

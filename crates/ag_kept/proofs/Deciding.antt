@@ -1,5 +1,5 @@
 -- What the tests of a block tell.
-use Rattle.std.proofs.Common.{◌≡◌, ◌⊎◌, ℕ, suc, ◌+◌, ◌-◌, ◌^◌, ◌<◌, ◌≤◌, List, [], ◌∷◌, length, drop, replicate, Bool, true, false, leb, ltb, eqb, refl, sym, ap, ◌∙◌, subst, arith, inl, inr}
+use Rattle.std.proofs.Common.{◌≡◌, ◌⊎◌, ℕ, suc, ◌+◌, ◌-◌, ◌^◌, ◌<◌, ◌≤◌, List, [], ◌∷◌, length, drop, replicate, Bool, leb, ltb, eqb, refl, arith, inl, inr}
 use Rattle.std.specs.Bool.{Decides}
 use Rattle.std.specs.Prelude.{◌&&◌, ◌||◌}
 use Rattle.std.specs.List.{AllByRecursion, list_all}
@@ -14,7 +14,6 @@ use Rattle.ag_record.specs.Spelling.{records_spelling, IsValue, IsPage, ArePages
 use Rattle.ag_record.specs.Reading.{is_page}
 use Rattle.ag_record.proofs.Fields.{is_page-IsPage, IsPage-is_page}
 use Rattle.ag_logblock.specs.declared.Head.{Head}
-use Rattle.ag_logblock.specs.Block.{HasBlock}
 use Rattle.ag_outside.specs.Disks.{Image, or_zeros}
 use Rattle.ag_logstore.specs.Stored.{log_end, Stored, sectors_of, StandAt, IsStored, Place, IsNext}
 use Rattle.ag_kept.specs.LogOn.{same_bytes, rises_above, can_value, can_pages, can_record, can_payload, can_head, do_stand, is_stored, is_next}

@@ -1,11 +1,11 @@
 -- The log that is found on an image is its log.
-use Rattle.std.proofs.Common.{◌≡◌, ◌⊎◌, ℕ, zero, suc, ◌+◌, ◌<◌, ◌≤◌, List, [], ◌∷◌, ◌++◌, length, Bool, true, false, Ok, if◌then◌else◌, refl, sym, ap, ◌∙◌, subst, arith, inl, inr}
+use Rattle.std.proofs.Common.{◌≡◌, ℕ, zero, suc, ◌+◌, ◌≤◌, List, [], ◌∷◌, length, Bool, if◌then◌else◌, refl, sym, ap, ◌∙◌, arith, inl, inr}
 use Rattle.std.proofs.lemmas.List.{length-append}
 use Rattle.std.proofs.lemmas.List.Concat.{flat_map-cons}
-use Rattle.ag_model.specs.Sizes.{record_size, block_sectors}
+use Rattle.ag_model.specs.Sizes.{block_sectors}
 use Rattle.ag_model.specs.declared.record.Record.{Record}
 use Rattle.ag_model.specs.declared.record.Log.{Log}
-use Rattle.ag_record.specs.Spelling.{spelling, records_spelling, HasSpelling, HaveSpelling}
+use Rattle.ag_record.specs.Spelling.{spelling, records_spelling, HaveSpelling}
 use Rattle.ag_record.specs.Reading.{record_at}
 use Rattle.ag_record.proofs.Records.{record_again, length-spelling}
 use Rattle.ag_record.proofs.Many.{size-least}
@@ -13,9 +13,9 @@ use Rattle.ag_logblock.specs.declared.Head.{Head}
 use Rattle.ag_logblock.specs.Fitting.{header_of, payload_of}
 use Rattle.ag_logblock.proofs.Wholes.{block_again}
 use Rattle.ag_outside.specs.Disks.{Image, or_zeros}
-use Rattle.ag_logstore.specs.Stored.{log_start, log_end, Stored, sectors_of, sectors_at, IsStored, Place, first_place, after_block, place_after, IsNext, AreStored, log_of_blocks}
+use Rattle.ag_logstore.specs.Stored.{Stored, sectors_of, sectors_at, IsStored, Place, first_place, after_block, place_after, IsNext, AreStored, log_of_blocks}
 use Rattle.ag_logstore.specs.LogOf.{IsLogOf}
-use Rattle.ag_logstore.proofs.Standing.{IsWritable, writable, some_sectors, block_says, count_of_block, sectors_at_are}
+use Rattle.ag_logstore.proofs.Standing.{writable, some_sectors, block_says, count_of_block, sectors_at_are}
 use Rattle.ag_logstore.proofs.Chains.{places_within, none_follows}
 use Rattle.ag_kept.specs.LogOn.{then_records, records_in, candidate, blocks_on, is_next, most_blocks, log_on}
 use Rattle.ag_kept.proofs.Deciding.{next_tells}

@@ -1,18 +1,17 @@
 -- What an image says once its master or its log was written.
-use Rattle.std.proofs.Common.{◌≡◌, ◌⊎◌, ℕ, zero, suc, ◌+◌, ◌^◌, ◌<◌, ◌≤◌, List, [], ◌∷◌, length, get_or, Some, Bool, true, false, leb, if◌then◌else◌, refl, sym, ap, ◌∙◌, subst, arith, inl, inr}
+use Rattle.std.proofs.Common.{◌≡◌, ◌⊎◌, ℕ, suc, ◌+◌, ◌^◌, ◌<◌, ◌≤◌, List, [], ◌∷◌, length, Some, Bool, true, false, leb, if◌then◌else◌, refl, sym, ap, ◌∙◌, subst, arith, inl, inr}
 use Rattle.std.specs.Prelude.{Contains}
 use Rattle.std.specs.List.{filter}
 use Rattle.std.proofs.lemmas.Bool.{le-leb, ne_eqb}
 use Rattle.std.proofs.lemmas.List.{take_all}
 use Rattle.ag_model.specs.declared.record.Log.{Log}
 use Rattle.ag_model.specs.Blocks.{cut_at}
-use Rattle.ag_outside.specs.Disks.{Image, or_zeros, put}
+use Rattle.ag_outside.specs.Disks.{Image, or_zeros}
 use Rattle.ag_master.specs.declared.master.Master.{Master}
 use Rattle.ag_master.specs.Spelling.{fields, spelling, HasSpelling}
 use Rattle.ag_master.proofs.Fields.{fields-spelling}
 use Rattle.ag_logstore.specs.LogKept.{RisesTo}
-use Rattle.ag_logstore.specs.Stored.{log_start, IsLogSector, incarnation_at}
-use Rattle.ag_logstore.specs.LogOf.{IsLogOf}
+use Rattle.ag_logstore.specs.Stored.{IsLogSector}
 use Rattle.ag_logstore.specs.Stores.{StoreView, IsCurrent}
 use Rattle.ag_logstore.proofs.Chains.{ends_of, current_alone}
 use Rattle.ag_logstore.proofs.LogEnds.{rises_le}
@@ -25,8 +24,8 @@ use Rattle.ag_kept.specs.Standing.{HasLog, IsHome, LeavesLog}
 use Rattle.ag_kept.specs.Starting.{own_log, raised_master, with_master, raised_so_far}
 use Rattle.ag_kept.proofs.Finding.{log_on_is}
 
-abbrev pub kept_so : Log → ℕ → ℕ → ℕ → Bool → Kept
-kept_so log incarnation cut redo loaded = record { log = log; incarnation = incarnation; cut = cut; redo = redo; loaded = loaded }
+abbrev pub kept_so : Log → ℕ → ℕ → ℕ → ℕ → ℕ → Bool → Kept
+kept_so log incarnation cut redo pages replica loaded = record { log = log; incarnation = incarnation; cut = cut; redo = redo; pages = pages; replica = replica; loaded = loaded }
 
 -- an image with this master and this log
 module _ (image : Image) (m : Master) (log : Log) (e : master_on image ≡ m) (plain : m ≡ master_of m.incarnation m.cut m.redo m.pages m.replica) (fits : HasSpelling m) (spelled : or_zeros (image 0) ≡ spelling m) (least : 1 ≤ m.incarnation) (has : HasLog image m.cut m.incarnation log) where
@@ -45,8 +44,8 @@ module _ (image : Image) (m : Master) (log : Log) (e : master_on image ≡ m) (p
     log = subst (λ l. HasLog image (master_on image).cut (master_on image).incarnation l) (sym found) mine;
   }
 
-  pub kept_is : (loaded : Bool) → kept_on image loaded ≡ kept_so log m.incarnation m.cut m.redo loaded
-  kept_is loaded = ap (λ l. kept_so l (master_on image).incarnation (master_on image).cut (master_on image).redo loaded) found ∙ ap (λ (x : Master). kept_so log x.incarnation x.cut x.redo loaded) e
+  pub kept_is : (loaded : Bool) → kept_on image loaded ≡ kept_so log m.incarnation m.cut m.redo m.pages m.replica loaded
+  kept_is loaded = ap (λ l. kept_so l (master_on image).incarnation (master_on image).cut (master_on image).redo (master_on image).pages (master_on image).replica loaded) found ∙ ap (λ (x : Master). kept_so log x.incarnation x.cut x.redo x.pages x.replica loaded) e
 
 -- a write of the master leaves the images of the pages
 pub master_leaves_pages : (image : Image) (m : Master) → SamePages image (with_master image m)
@@ -80,7 +79,7 @@ module _ (image after : Image) (log : Log) (h : IsHome image) (l : LeavesLog ima
   pub home_stays : IsHome after
   home_stays = home_is after (master_on image) log same_master h.plain h.fits (ap or_zeros first_stays ∙ h.spelled) h.least l.has
 
-  pub kept_stays : (loaded : Bool) → kept_on after loaded ≡ kept_so log (master_on image).incarnation (master_on image).cut (master_on image).redo loaded
+  pub kept_stays : (loaded : Bool) → kept_on after loaded ≡ kept_so log (master_on image).incarnation (master_on image).cut (master_on image).redo (master_on image).pages (master_on image).replica loaded
   kept_stays loaded = kept_is after (master_on image) log same_master h.plain h.fits (ap or_zeros first_stays ∙ h.spelled) h.least l.has loaded
 
 -- the last end is where the log ends
@@ -154,7 +153,7 @@ module _ (image : Image) (h : IsHome image) (small : (master_on image).incarnati
   pub raised_home : IsHome now
   raised_home = home_is now next log (fields-spelling next next_fits) next_plain next_fits refl (omega arith) now_has
 
-  pub raised_kept : (loaded : Bool) → kept_on now loaded ≡ kept_so log (m.incarnation + 1) (length log.records) m.redo loaded
+  pub raised_kept : (loaded : Bool) → kept_on now loaded ≡ kept_so log (m.incarnation + 1) (length log.records) m.redo m.pages m.replica loaded
   raised_kept loaded = kept_is now next log (fields-spelling next next_fits) next_plain next_fits refl (omega arith) now_has loaded
 
   -- the same once a start came so far

@@ -1,5 +1,5 @@
 -- What the opening writes.
-use Rattle.std.proofs.Common.{◌≡◌, ◌⊎◌, ℕ, ◌+◌, ◌^◌, ◌<◌, ◌≤◌, List, [], ◌∷◌, length, replicate, Bool, true, false, IsTrue, Some, Result, Ok, Err, if◌then◌else◌, refl, sym, ap, ◌∙◌, subst, arith, inl, inr}
+use Rattle.std.proofs.Common.{◌≡◌, ℕ, ◌≤◌, List, [], ◌∷◌, replicate, Bool, true, false, IsTrue, Some, Result, Ok, Err, if◌then◌else◌, refl, sym, ap, ◌∙◌, subst, arith, inl, inr}
 use Rattle.std.specs.Prelude.{OnOk}
 use Rattle.std.proofs.lemmas.Bool.{ne_eqb}
 use Rattle.ag_model.specs.declared.record.Record.{Record}
@@ -116,8 +116,8 @@ module _ (after : Image) (m : Master) (pages replica : ℕ) (m_is : m ≡ master
   pub opened_home : IsHome now
   opened_home = home_is now m opening_log (fields-spelling m fits) plain fits refl least has_now
 
-  pub opened_kept : kept_on now true ≡ opening_kept
-  opened_kept = kept_is now m opening_log (fields-spelling m fits) plain fits refl least has_now true ∙ ap (λ (x : Master). record opening_kept { incarnation = x.incarnation; cut = x.cut; redo = x.redo }) m_is
+  pub opened_kept : kept_on now true ≡ opening_kept pages replica
+  opened_kept = kept_is now m opening_log (fields-spelling m fits) plain fits refl least has_now true ∙ ap (λ (x : Master). record (opening_kept pages replica) { incarnation = x.incarnation; cut = x.cut; redo = x.redo; pages = x.pages; replica = x.replica }) m_is
 
   pub opened_current : (s : StoreView) → IsCurrent after s → IsCurrent now s
   opened_current s cur = current_alone after now s cur other
@@ -151,7 +151,7 @@ module _ {D : Type 0} (keeps : D → Bool) (reads : D → Image) (mid new : Scri
   pub opened_at_home : IsSettled keeps mid new → IsAtHome keeps reads new
   opened_at_home settled = record { modelled = subst IsTrue (sym settled.keeps_same) k; unsynced = settled.unsynced; home = subst IsHome (sym is) (opened_home (reads_of reads mid) m pages replica m_is fits has) }
 
-  pub opened_kept_on : kept_on (reads_of reads new) true ≡ opening_kept
+  pub opened_kept_on : kept_on (reads_of reads new) true ≡ opening_kept pages replica
   opened_kept_on = ap (λ (image : Image). kept_on image true) is ∙ opened_kept (reads_of reads mid) m pages replica m_is fits has
 
   pub opened_memory : (may_hold : D → ℕ → Content → Type 0) (t : StoreView) → t ≡ opened_store → IsCurrent (reads_of reads mid) t → Only (reads_of reads new) (holds_of keeps may_hold new) → IsMemory keeps reads may_hold new t

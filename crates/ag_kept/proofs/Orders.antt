@@ -1,17 +1,14 @@
 -- How far an event comes, by what stopped it.
-use Rattle.std.proofs.Common.{◌≡◌, ◌⊎◌, ℕ, suc, ◌+◌, ◌-◌, ◌^◌, ◌<◌, ◌≤◌, min, max, List, [], ◌∷◌, length, Bool, true, false, leb, eqb, if◌then◌else◌, refl, sym, ap, ◌∙◌, subst, arith, inl, inr}
-use Rattle.std.specs.Prelude.{◌&&◌}
+use Rattle.std.proofs.Common.{◌≡◌, ℕ, suc, ◌+◌, ◌-◌, ◌^◌, ◌<◌, ◌≤◌, min, max, List, [], ◌∷◌, length, Bool, true, false, leb, eqb, if◌then◌else◌, refl, sym, ap, ◌∙◌, subst, arith, inl, inr}
 use Rattle.std.specs.List.{list_all, range_with_len}
 use Rattle.std.proofs.lemmas.Bool.{cases_lt, le-leb, lt-leb, eq-eqb, ne_eqb}
 use Rattle.ag_model.specs.declared.event.Suffix.{Suffix}
 use Rattle.ag_model.specs.declared.event.Suffix.TheVariants.{Whole, Stop as StopAt, Fail}
 use Rattle.ag_model.specs.Cells.{keeps, keeps_all}
 use Rattle.ag_outside.specs.declared.disk.SectorWrite.{SectorWrite}
-use Rattle.ag_outside.specs.declared.order.Arm.{Arm}
-use Rattle.ag_outside.specs.declared.order.Arm.TheVariants.{Free, Stop as StopOrder, Fail as FailOrder}
+use Rattle.ag_outside.specs.declared.order.Arm.TheVariants.{Stop as StopOrder, Fail as FailOrder}
 use Rattle.ag_outside.specs.Disks.{writes}
 use Rattle.ag_outside.specs.Scripts.{kept}
-use Rattle.ag_kept.specs.declared.reach.Reach.{Reach}
 use Rattle.ag_kept.specs.declared.reach.Reach.TheVariants.{End, Stop, Fault}
 use Rattle.ag_kept.specs.Reaching.{how_far, order_of}
 use Rattle.ag_kept.proofs.Stops.{decide, not_all, kept_whole}

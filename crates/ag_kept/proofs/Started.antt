@@ -1,5 +1,5 @@
 -- What a start makes of a disk.
-use Rattle.std.proofs.Common.{◌≡◌, ◌⊎◌, ℕ, ◌+◌, ◌^◌, ◌<◌, ◌≤◌, List, [], length, Bool, true, false, IsTrue, refl, sym, ap, ◌∙◌, subst, arith, inl, inr}
+use Rattle.std.proofs.Common.{◌≡◌, ◌⊎◌, ℕ, ◌+◌, ◌^◌, ◌<◌, ◌≤◌, length, Bool, true, false, IsTrue, sym, ap, ◌∙◌, subst, arith, inl, inr}
 use Rattle.std.proofs.lemmas.Bool.{cases_lt}
 use Rattle.std.specs.Prelude.{Contains, Option, Some}
 use Rattle.std.specs.Option.{MatchOption}
@@ -7,13 +7,11 @@ use Rattle.ag_model.specs.declared.event.Suffix.{Suffix}
 use Rattle.ag_model.specs.declared.record.Log.{Log}
 use Rattle.ag_model.specs.Blocks.{cut_at}
 use Rattle.ag_outside.specs.declared.order.Arm.{Arm}
-use Rattle.ag_outside.specs.declared.order.Arm.TheVariants.{Stop as StopOrder, Fail as FailOrder}
-use Rattle.ag_outside.specs.Counts.{HasRisen}
+use Rattle.ag_outside.specs.declared.order.Arm.TheVariants.{Fail as FailOrder}
 use Rattle.ag_outside.specs.Disks.{Content, Image, Only}
 use Rattle.ag_outside.specs.Scripts.{ScriptedView}
 use Rattle.ag_outside.specs.Shown.{reads_of, holds_of}
 use Rattle.ag_master.specs.declared.master.Master.{Master}
-use Rattle.ag_master.specs.Spelling.{IsKept}
 use Rattle.ag_master.proofs.Fields.{fields-spelling}
 use Rattle.ag_logstore.specs.LogOf.{IsLogOf}
 use Rattle.ag_logstore.specs.Stores.{StoreView, IsCurrent, IsReady}

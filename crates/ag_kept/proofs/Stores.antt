@@ -1,5 +1,5 @@
 -- What holds of a store before and after a call.
-use Rattle.std.proofs.Common.{◌≡◌, ℕ, ◌+◌, ◌≤◌, List, [], length, Bool, true, false, IsTrue, Some, None, is_some, refl, sym, ap, ◌∙◌, subst}
+use Rattle.std.proofs.Common.{◌≡◌, ℕ, ◌≤◌, List, Bool, true, false, Some, None, is_some, refl, sym, ap, ◌∙◌, subst}
 use Rattle.std.specs.Prelude.{Option}
 use Rattle.std.specs.Option.{MatchOption}
 use Rattle.ag_model.specs.declared.record.Record.{Record}
@@ -23,11 +23,11 @@ use Rattle.ag_kept.proofs.Homes.{kept_so, same_master, home_stays, kept_stays}
 use Rattle.ag_kept.proofs.Started.{settled_home}
 
 -- what is kept once a block was written, but not to the end
-pub hardened_is : (k : Kept) (s : StoreView) (new : List Record) (r : Reach) → k.log ≡ s.log → (r ≡ End → ⊥) → hardened k new r ≡ kept_so (reached_log s new r) k.incarnation k.cut k.redo false
+pub hardened_is : (k : Kept) (s : StoreView) (new : List Record) (r : Reach) → k.log ≡ s.log → (r ≡ End → ⊥) → hardened k new r ≡ kept_so (reached_log s new r) k.incarnation k.cut k.redo k.pages k.replica false
 hardened_is k s new End e other = absurd (other refl)
-hardened_is k s new (Stop true) e other = ap (λ (l : Log). kept_so (with_block l new) k.incarnation k.cut k.redo false) e
-hardened_is k s new (Stop false) e other = ap (λ (l : Log). kept_so l k.incarnation k.cut k.redo false) e
-hardened_is k s new Fault e other = ap (λ (l : Log). kept_so l k.incarnation k.cut k.redo false) e
+hardened_is k s new (Stop true) e other = ap (λ (l : Log). kept_so (with_block l new) k.incarnation k.cut k.redo k.pages k.replica false) e
+hardened_is k s new (Stop false) e other = ap (λ (l : Log). kept_so l k.incarnation k.cut k.redo k.pages k.replica false) e
+hardened_is k s new Fault e other = ap (λ (l : Log). kept_so l k.incarnation k.cut k.redo k.pages k.replica false) e
 
 -- where memory has nothing
 pub none_there : {X : Type 0} (o : Option X) (P : X → Type 0) → is_some o ≡ false → MatchOption o (Unit {0}) P
@@ -66,7 +66,7 @@ module _ {D : Type 0} (size : D → ℕ) (keeps : D → Bool) (reads : D → Ima
       pub after_home : IsAtHome keeps reads new
       after_home = settled_home keeps reads disk new at_home settled (reads_of reads new) refl (home_stays image (reads_of reads new) log at_home.home leaves_on)
 
-      pub after_kept : (loaded : Bool) → kept_on (reads_of reads new) loaded ≡ kept_so log (master_on image).incarnation (master_on image).cut (master_on image).redo loaded
+      pub after_kept : (loaded : Bool) → kept_on (reads_of reads new) loaded ≡ kept_so log (master_on image).incarnation (master_on image).cut (master_on image).redo (master_on image).pages (master_on image).replica loaded
       after_kept loaded = kept_stays image (reads_of reads new) log at_home.home leaves_on loaded
 
       pub after_memory : (t : StoreView) → t ≡ record s { log = log } → IsReady (keeps new.disk) (reads_of reads new) (holds_of keeps may_hold new) t → IsMemory keeps reads may_hold new t
@@ -86,4 +86,4 @@ module _ {D : Type 0} (size : D → ℕ) (keeps : D → Bool) (reads : D → Ima
 
     -- what is kept at the end
     pub after_kept_end : (new : ScriptedView D) (records : List Record) → IsSettled keeps disk new → LeavesLog image s.cut s.incarnation (with_block s.log records) (reads_of reads new) → kept_on (reads_of reads new) true ≡ hardened (kept_on image true) records End
-    after_kept_end new records settled leaves = after_kept new (with_block s.log records) settled leaves true ∙ ap (λ (l : Log). kept_so (with_block l records) (master_on image).incarnation (master_on image).cut (master_on image).redo true) (sym log_of)
+    after_kept_end new records settled leaves = after_kept new (with_block s.log records) settled leaves true ∙ ap (λ (l : Log). kept_so (with_block l records) (master_on image).incarnation (master_on image).cut (master_on image).redo (master_on image).pages (master_on image).replica true) (sym log_of)

@@ -1,5 +1,5 @@
 -- What a replica keeps on its disk.
-use Rattle.std.specs.Prelude.{◌≡◌, ◌<◌, ◌≤◌, ◌+◌, ◌^◌, ℕ, [], ◌∷◌, length, List, Bool, true, false, if◌then◌else◌}
+use Rattle.std.specs.Prelude.{◌≡◌, ◌<◌, ◌≤◌, ◌+◌, ℕ, [], ◌∷◌, length, List, Bool, true, false, if◌then◌else◌}
 use Rattle.ag_model.specs.declared.record.Record.{Record}
 use Rattle.ag_model.specs.declared.record.Record.TheVariants.{Term}
 use Rattle.ag_model.specs.declared.record.Log.{Log}
@@ -12,12 +12,14 @@ use Rattle.ag_kept.specs.declared.reach.Reach.TheVariants.{End, Stop, Fault}
 use Rattle.ag_kept.specs.LogOn.{log_on}
 
 -- what stands on the disk: the log, the incarnation, the LSN above which no block of an earlier incarnation counts, and the
--- LSN from which redo starts; and whether the log is in memory too
+-- LSN from which redo starts, how many data pages there are and the replica's number; and whether the log is in memory too
 pub record Kept : Type 0 where
   pub log : Log
   pub incarnation : ℕ
   pub cut : ℕ
   pub redo : ℕ
+  pub pages : ℕ
+  pub replica : ℕ
   pub loaded : Bool
 
 -- what is seen of a store: what it keeps, unless a fault has left that open, and how often the disk below has failed
@@ -37,6 +39,8 @@ kept_on image loaded = record {
   incarnation = (master_on image).incarnation;
   cut = (master_on image).cut;
   redo = (master_on image).redo;
+  pages = (master_on image).pages;
+  replica = (master_on image).replica;
   loaded = loaded;
 }
 
@@ -76,6 +80,6 @@ started k End = record (raised k) { loaded = true }
 started k (Stop whole) = if whole then raised k else k
 started k Fault = k
 
--- what is kept as a group opens: the block that starts term 1
-abbrev pub opening_kept : Kept
-opening_kept = record { log = record { records = Term 1 ∷ []; ends = 1 ∷ [] }; incarnation = 1; cut = 0; redo = 1; loaded = true }
+-- what the replica of this number keeps as a group opens, with so many data pages: the block that starts term 1
+abbrev pub opening_kept : ℕ → ℕ → Kept
+opening_kept pages replica = record { log = record { records = Term 1 ∷ []; ends = 1 ∷ [] }; incarnation = 1; cut = 0; redo = 1; pages = pages; replica = replica; loaded = true }

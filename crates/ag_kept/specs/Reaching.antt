@@ -1,5 +1,5 @@
 -- How far a write comes whose order stops it, or has a call fail.
-use Rattle.std.specs.Prelude.{ℕ, Bool, nat_le, max, if◌then◌else◌}
+use Rattle.std.specs.Prelude.{ℕ, nat_le, max, if◌then◌else◌}
 use Rattle.ag_model.specs.declared.event.Suffix.{Suffix}
 use Rattle.ag_model.specs.declared.event.Suffix.TheVariants.{Whole, Stop as StopAt, Fail}
 use Rattle.ag_model.specs.Cells.{keeps_all}

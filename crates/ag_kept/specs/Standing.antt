@@ -1,5 +1,5 @@
 -- What stands on the disk of a replica.
-use Rattle.std.specs.Prelude.{◌≡◌, ◌≤◌, ◌<◌, ℕ, List, [], replicate, Bool, true, false, IsTrue, Option, if◌then◌else◌}
+use Rattle.std.specs.Prelude.{◌≡◌, ◌≤◌, ℕ, List, [], replicate, Bool, true, false, IsTrue, Option, if◌then◌else◌}
 use Rattle.std.specs.Option.{MatchOption}
 use Rattle.ag_model.specs.declared.record.Record.{Record}
 use Rattle.ag_model.specs.declared.record.Log.{Log}

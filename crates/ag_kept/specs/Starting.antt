@@ -1,5 +1,5 @@
 -- What a start does to the disk of a replica.
-use Rattle.std.specs.Prelude.{◌≡◌, ◌+◌, ℕ, [], ◌∷◌, length, Bool, false, if◌then◌else◌}
+use Rattle.std.specs.Prelude.{◌≡◌, ◌+◌, ℕ, Bool, false, if◌then◌else◌}
 use Rattle.ag_model.specs.declared.record.Log.{Log}
 use Rattle.ag_outside.specs.Disks.{Image, put}
 use Rattle.ag_outside.specs.Scripts.{ScriptedView}

@@ -120,11 +120,11 @@ fn write_opening<D: Disk>(
     requires ready { IsReady (D.keeps disk.old.disk) (reads_of D.reads disk.old) (holds_of D.keeps D.may_hold disk.old) store.old }
     requires block { block.now ≡ record { first = 1; term = 1; records = Term 1 ∷ [] } }
     requires payload { ArePayload block.now.records }
-    requires master { (pages : ℕ) × (replica : ℕ) × (master.now ≡ master_of 1 0 1 pages replica) }
+    requires master { master.now ≡ master_of 1 0 1 master.now.pages master.now.replica }
     requires fits { HasSpelling master.now }
     ensures home { OnOk result (IsAtHome D.keeps D.reads disk.new) }
     ensures memory { OnOk result (IsMemory D.keeps D.reads D.may_hold disk.new store.new) }
-    ensures kept { OnOk result (kept_on (reads_of D.reads disk.new) true ≡ opening_kept) }
+    ensures kept { OnOk result (kept_on (reads_of D.reads disk.new) true ≡ opening_kept master.now.pages master.now.replica) }
     ensures pages { OnOk result (SamePages (reads_of D.reads disk.old) (reads_of D.reads disk.new)) }
     ensures later { OnOk result (D.faults disk.old.disk ≤ D.faults disk.new.disk) }
     ensures fault { IsErrOf result KeptFault.DiskFault → HasRisen (D.faults disk.old.disk) (D.faults disk.new.disk) }
@@ -148,7 +148,7 @@ pub fn open<D: Disk>(
     requires blank { IsBlank D.keeps D.reads disk.old }
     ensures home { OnOk result (IsAtHome D.keeps D.reads disk.new) }
     ensures memory { IfOk result (IsMemory D.keeps D.reads D.may_hold disk.new) }
-    ensures kept { OnOk result (kept_on (reads_of D.reads disk.new) true ≡ opening_kept) }
+    ensures kept { OnOk result (kept_on (reads_of D.reads disk.new) true ≡ opening_kept pages replica) }
     ensures pages { OnOk result (SamePages (reads_of D.reads disk.old) (reads_of D.reads disk.new)) }
     ensures later { OnOk result (D.faults disk.old.disk ≤ D.faults disk.new.disk) }
     ensures fault { IsErrOf result KeptFault.DiskFault → HasRisen (D.faults disk.old.disk) (D.faults disk.new.disk) }

@@ -33,13 +33,13 @@ pub record Home : Type 0 where
 abbrev pub blank_images : ℕ → List (List Cell)
 blank_images pages = replicate pages (replicate 16 (Mark 0))
 
--- after a fault of its store a node is down, with the log of a group that opens
-abbrev pub lost_kept : Kept
-lost_kept = record { log = opening_log; incarnation = 1; cut = 0; redo = 1; loaded = false }
+-- after a fault of its store a node is down, with the log of a group that opens, and nothing is known of its number
+abbrev pub lost_kept : ℕ → Kept
+lost_kept pages = record { log = opening_log; incarnation = 1; cut = 0; redo = 1; pages = pages; replica = 0; loaded = false }
 
 -- such a store with so many data pages
 abbrev pub lost_store : ℕ → ℕ → StoreView
-lost_store pages faults = record { kept = lost_kept; pages = pages; cells = blank_images pages; applied = replicate 16 1; dirty = replicate pages false; sound = false; faults = faults }
+lost_store pages faults = record { kept = lost_kept pages; pages = pages; cells = blank_images pages; applied = replicate 16 1; dirty = replicate pages false; sound = false; faults = faults }
 
 -- a node that leads or follows, with what its store shows
 abbrev pub home_with : Bool → Bool → StoreView → Home

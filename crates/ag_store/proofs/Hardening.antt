@@ -65,7 +65,7 @@ module _ {D : Type 0} (size : D → ℕ) (keeps : D → Bool) (reads : D → Ima
     abbrev later : Kept
     later = kept_on (reads_of reads new) true
 
-    kept_after : (loaded : Bool) → kept_on (reads_of reads new) loaded ≡ kept_so (reached_log m.log records r) (master_on (reads_of reads disk)).incarnation (master_on (reads_of reads disk)).cut (master_on (reads_of reads disk)).redo loaded
+    kept_after : (loaded : Bool) → kept_on (reads_of reads new) loaded ≡ kept_so (reached_log m.log records r) (master_on (reads_of reads disk)).incarnation (master_on (reads_of reads disk)).cut (master_on (reads_of reads disk)).redo (master_on (reads_of reads disk)).pages (master_on (reads_of reads disk)).replica loaded
     kept_after loaded = after_kept size keeps reads may_hold disk (Some m.log) sound m.log kept_store is_sound refl new (reached_log m.log records r) settled leaves loaded
 
     log_after : later.log ≡ reached_log m.log records r

@@ -36,8 +36,8 @@ opening-value pages (suc zero) page = refl
 opening-value pages (suc (suc n)) page = refl
 
 -- the opening log is proper
-pub opening-proper : (pages : ℕ) → IsProper pages opening_kept.log
-opening-proper pages = record {
+pub opening-proper : (pages replica : ℕ) → IsProper pages (opening_kept pages replica).log
+opening-proper pages replica = record {
   first = refl;
   terms = (omega arith, tt);
   each = (tt, tt);
@@ -48,8 +48,8 @@ opening-proper pages = record {
 }
 
 module _ {D : Type 0} (size : D → ℕ) (keeps : D → Bool) (reads : D → Image) (may_hold : D → ℕ → Content → Type 0) (blank : Image) (zeros : (at : ℕ) → blank at ≡ Some (replicate 512 0)) (says : (page : ℕ) → in_image page (image 0 (replicate 8176 0)) ≡ Value (empty_page page))
-    (new : ScriptedView D) (pages : ℕ) (low : 16 ≤ pages) (high : pages ≤ 2048) (room : log_end ≤ size new.disk) (home : IsAtHome keeps reads new) (s : LogView) (is_memory : IsMemory keeps reads may_hold new s)
-    (kept : kept_on (reads_of reads new) true ≡ opening_kept) (same : SamePages blank (reads_of reads new))
+    (new : ScriptedView D) (pages replica : ℕ) (low : 16 ≤ pages) (high : pages ≤ 2048) (room : log_end ≤ size new.disk) (home : IsAtHome keeps reads new) (s : LogView) (is_memory : IsMemory keeps reads may_hold new s)
+    (kept : kept_on (reads_of reads new) true ≡ (opening_kept pages replica)) (same : SamePages blank (reads_of reads new))
     (clean : PagesView) (count : clean.count ≡ pages) (applied : clean.applied ≡ replicate 16 1) (empty : (page : ℕ) → slot clean page ≡ empty_slot) where
   abbrev on : Image
   on = reads_of reads new
@@ -63,7 +63,7 @@ module _ {D : Type 0} (size : D → ℕ) (keeps : D → Bool) (reads : D → Ima
   at_one : (stripe : ℕ) → stripe < 16 → applied_of clean stripe ≡ 1
   at_one stripe lt = ap (λ (xs : List ℕ). get_or xs stripe 0) applied ∙ get_or-replicate 16 stripe 1 0 lt
 
-  image_opens : (page : ℕ) → IsDataPage pages page → IsImageOf pages opening_kept.log opening_kept.redo 1 false page (in_home (told_on on) page)
+  image_opens : (page : ℕ) → IsDataPage pages page → IsImageOf pages (opening_kept pages replica).log (opening_kept pages replica).redo 1 false page (in_home (told_on on) page)
   image_opens page is = record {
     lsn = 1;
     high = omega arith;
@@ -72,12 +72,12 @@ module _ {D : Type 0} (size : D → ℕ) (keeps : D → Bool) (reads : D → Ima
     clean = λ d. refl;
   }
 
-  images_open : AreImages pages on opening_kept clean.applied (map (is_dirty clean) (page_numbers pages))
+  images_open : AreImages pages on (opening_kept pages replica) clean.applied (map (is_dirty clean) (page_numbers pages))
   images_open page is =
-      subst (λ (b : Bool). IsImageOf pages opening_kept.log opening_kept.redo (applied_of clean (stripe_of page)) b page (in_home (told_on on) page)) (sym (flag-at clean pages page is ∙ ap (λ s. s.dirty) (empty page)))
-      (subst (λ n. IsImageOf pages opening_kept.log opening_kept.redo n false page (in_home (told_on on) page)) (sym (at_one (stripe_of page) (stripe-low page))) (image_opens page is))
+      subst (λ (b : Bool). IsImageOf pages (opening_kept pages replica).log (opening_kept pages replica).redo (applied_of clean (stripe_of page)) b page (in_home (told_on on) page)) (sym (flag-at clean pages page is ∙ ap (λ s. s.dirty) (empty page)))
+      (subst (λ n. IsImageOf pages (opening_kept pages replica).log (opening_kept pages replica).redo n false page (in_home (told_on on) page)) (sym (at_one (stripe_of page) (stripe-low page))) (image_opens page is))
 
-  values_open : AreValues pages on opening_kept clean
+  values_open : AreValues pages on (opening_kept pages replica) clean
   values_open page is =
       ap (λ s. known_by (told_on on) page s.value) (empty page)
       ∙ empty_home page is
@@ -89,19 +89,19 @@ module _ {D : Type 0} (size : D → ℕ) (keeps : D → Bool) (reads : D → Ima
     low = low;
     high = high;
     stands = λ e. home;
-    proper = λ e. subst (λ (k : Kept). IsProper pages k.log) (sym kept) (opening-proper pages);
+    proper = λ e. subst (λ (k : Kept). IsProper pages k.log) (sym kept) (opening-proper pages replica);
     redo = λ e. subst (λ (k : Kept). IsBlockEnd k.log k.redo) (sym kept) refl;
     images = λ e. subst (λ (k : Kept). AreImages pages on k clean.applied (map (is_dirty clean) (page_numbers pages))) (sym kept) images_open;
     loaded = λ e. record {
       log = is_memory;
       count = count;
       redo = sym (ap (λ (k : Kept). k.redo) kept);
-      ends = subst (λ (k : Kept). AreAtEnds k clean.applied) (sym kept) (ends-all opening_kept clean.applied 1 applied refl (omega arith));
+      ends = subst (λ (k : Kept). AreAtEnds k clean.applied) (sym kept) (ends-all (opening_kept pages replica) clean.applied 1 applied refl (omega arith));
       values = subst (λ (k : Kept). AreValues pages on k clean) (sym kept) values_open;
     };
   }
 
-  pub opened_seen : (faults : ℕ) → store_on on pages (Some (record { log = s; pages = clean; redo = 1 })) true faults ≡ opening_store pages faults
+  pub opened_seen : (faults : ℕ) → store_on on pages (Some (record { log = s; pages = clean; redo = 1 })) true faults ≡ opening_store pages replica faults
   opened_seen faults =
       let c = cells-same blank on pages same high ∙ zero-cells blank pages zeros in
       λ i. record { kept = kept i; pages = pages; cells = c i; applied = applied i; dirty = no_flags i; sound = true; faults = faults }

@@ -59,10 +59,10 @@ store_on image pages memory sound faults = record {
   faults = faults;
 }
 
--- as a group opens, with so many data pages
-abbrev pub opening_store : ℕ → ℕ → StoreView
-opening_store pages faults = record {
-  kept = opening_kept;
+-- the replica of this number as a group opens, with so many data pages
+abbrev pub opening_store : ℕ → ℕ → ℕ → StoreView
+opening_store pages replica faults = record {
+  kept = opening_kept pages replica;
   pages = pages;
   cells = replicate pages (replicate 16 (Mark 0));
   applied = replicate 16 1;

@@ -64,7 +64,7 @@ impl<D: Disk> Store<D> {
         requires zeros { (at : ℕ) → D.reads disk at ≡ Some (replicate 512 0) }
         requires low { 16 ≤ pages }
         requires high { pages ≤ 2048 }
-        ensures store { IfOk result (λ s. s ≡ opening_store pages s.faults) }
+        ensures store { IfOk result (λ s. s ≡ opening_store pages replica s.faults) }
         ensures later { IfOk result (λ s. D.faults disk ≤ s.faults) }
         ensures fault { IfErr result (λ x. x.0 ≡ KeptFault.DiskFault → HasRisen (D.faults disk) (D.faults x.1)) }
     {

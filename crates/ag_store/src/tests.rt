@@ -23,7 +23,7 @@ use std::test::Fail;
 
 /// A store as a group opens, with 16 pages, on a disk in memory that fails at the calls of these numbers.
 fn opened(alloc: Global, failing: Vec<u64>) -> Result<Store<MemDisk>, KeptFault>
-    ensures { IfOk result (λ s. s ≡ opening_store 16 s.faults) }
+    ensures { IfOk result (λ s. s ≡ opening_store 16 0 s.faults) }
 {
     let disk = MemDisk::new(alloc, failing, false);
     match Store::create(alloc, disk, 16, 0) {
@@ -34,7 +34,7 @@ fn opened(alloc: Global, failing: Vec<u64>) -> Result<Store<MemDisk>, KeptFault>
 
 /// The same, with a disk that fails at this call. The opening makes 6 calls, and the block below 2.
 fn failing(alloc: Global, call: u64) -> Result<Store<MemDisk>, KeptFault>
-    ensures { IfOk result (λ s. s ≡ opening_store 16 s.faults) }
+    ensures { IfOk result (λ s. s ≡ opening_store 16 0 s.faults) }
 {
     opened(alloc, Vec::from_slice(alloc, &[call])?)
 }
@@ -70,7 +70,7 @@ fn block(alloc: Global) -> Result<Block, NoMemory>
 
 /// Hardens that block in a store as it opens.
 fn harden(alloc: Global, store: &mut Store<MemDisk>, suffix: &Suffix) -> Result<Reach, KeptFault>
-    requires { store.old ≡ opening_store 16 store.old.faults }
+    requires { store.old ≡ opening_store 16 0 store.old.faults }
 {
     let block = block(alloc)?;
     store.harden(&block, suffix)

@@ -56,7 +56,7 @@ impl<D: Disk> KeptStore<D> {
         requires room { log_end ≤ D.size disk }
         requires keeps { IsTrue (D.keeps disk) }
         requires zeros { (at : ℕ) → or_zeros (D.reads disk at) ≡ replicate 512 0 }
-        ensures kept { IfOk result (λ s. s.kept ≡ opening_kept) }
+        ensures kept { IfOk result (λ s. s.kept ≡ opening_kept pages replica) }
         ensures sound { IfOk result (λ s. s.sound ≡ true) }
         ensures later { IfOk result (λ s. D.faults disk ≤ s.faults) }
         ensures fault { IfErr result (λ x. x.0 ≡ KeptFault.DiskFault → HasRisen (D.faults disk) (D.faults x.1)) }

@@ -1,4 +1,4 @@
-use Rattle.std.proofs.Common.{◌≡◌, IsTrue, Err, ap, ◌∙◌}
+use Rattle.std.proofs.Common.{Err, ap, ◌∙◌}
 use Rattle.ag_logstore.specs.Stores.{StoreView, stored_by}
 use Rattle.ag_kept.proofs.Coming.{append_failed, append_went, append_leaves, follows_so, sectors_is, if_ok, on_ok, always_ok, append_later}
 use Rattle.ag_kept.proofs.appending.append.Goals as goal

@@ -1,5 +1,4 @@
-use Rattle.std.proofs.Common.{◌≡◌, ℕ, IsTrue, Err, replicate, sym, ap, ◌∙◌, subst}
-use Rattle.ag_outside.specs.declared.order.Arm.TheVariants.{Free}
+use Rattle.std.proofs.Common.{IsTrue, Err, sym, ap, ◌∙◌, subst}
 use Rattle.ag_outside.specs.Disks.{Image, or_zeros, Only}
 use Rattle.ag_outside.specs.Scripts.{ScriptedView}
 use Rattle.ag_outside.specs.Shown.{reads_of, holds_of}

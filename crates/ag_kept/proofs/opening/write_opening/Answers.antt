@@ -1,6 +1,5 @@
-use Rattle.std.proofs.Common.{◌≡◌, ◌+◌, ◌≤◌, IsTrue, List, Ok, length, sym, ap, ◌∙◌, subst, arith}
+use Rattle.std.proofs.Common.{◌+◌, IsTrue, Ok, length, sym, ap, ◌∙◌, subst, arith}
 use Rattle.ag_model.specs.declared.message.Block.{Block}
-use Rattle.ag_model.specs.declared.record.Record.{Record}
 use Rattle.ag_model.specs.Sizes.{block_sectors, free_sectors}
 use Rattle.ag_outside.specs.Disks.{Image}
 use Rattle.ag_outside.specs.Shown.{reads_of}
@@ -34,7 +33,7 @@ returns-in-Ok-clause-home g c =
     let records = ap (λ (b : Block). b.records) c.requires.block in
     let has = opened_log (reads_of d.reads old) (reads_of d.reads mid) c.args.store.now c.args.block.now.records c.in-Ok.field-0 c.requires.store records c.in-Ok.ensures.reach c.in-Ok.ensures.log in
     let k : IsTrue (d.keeps mid.disk) = subst IsTrue (sym c.in-Ok.ensures.settled.keeps_same) c.requires.blank.modelled in
-    both_ok c.save_freely.result c.save_freely.ensures.image c.save_freely.ensures.settled (λ image settled. opened_at_home d.keeps d.reads mid new m is.0 is.1 is.2 c.requires.fits has k image settled)
+    both_ok c.save_freely.result c.save_freely.ensures.image c.save_freely.ensures.settled (λ image settled. opened_at_home d.keeps d.reads mid new m m.pages m.replica is c.requires.fits has k image settled)
 
 pub returns-in-Ok-clause-memory : goal.returns-in-Ok-clause-memory
 returns-in-Ok-clause-memory g c =
@@ -49,7 +48,7 @@ returns-in-Ok-clause-memory g c =
     let k : IsTrue (d.keeps mid.disk) = subst IsTrue (sym c.in-Ok.ensures.settled.keeps_same) c.requires.blank.modelled in
     let done = c.in-Ok.is ∙ ap (λ (r : Reach). Ok r) c.in-Ok.ensures.reach in
     let store = opened_store_is c.args.store.now c.append.new.store c.args.block.now.records c.requires.store records (c.append.ensures.store done) in
-    both_ok c.save_freely.result c.save_freely.ensures.image c.save_freely.ensures.durable (λ image only. opened_memory d.keeps d.reads mid new m is.0 is.1 is.2 c.requires.fits has k image d.may_hold c.append.new.store store ((c.append.ensures.ready done).current k) only)
+    both_ok c.save_freely.result c.save_freely.ensures.image c.save_freely.ensures.durable (λ image only. opened_memory d.keeps d.reads mid new m m.pages m.replica is c.requires.fits has k image d.may_hold c.append.new.store store ((c.append.ensures.ready done).current k) only)
 
 pub returns-in-Ok-clause-kept : goal.returns-in-Ok-clause-kept
 returns-in-Ok-clause-kept g c =
@@ -62,7 +61,7 @@ returns-in-Ok-clause-kept g c =
     let records = ap (λ (b : Block). b.records) c.requires.block in
     let has = opened_log (reads_of d.reads old) (reads_of d.reads mid) c.args.store.now c.args.block.now.records c.in-Ok.field-0 c.requires.store records c.in-Ok.ensures.reach c.in-Ok.ensures.log in
     let k : IsTrue (d.keeps mid.disk) = subst IsTrue (sym c.in-Ok.ensures.settled.keeps_same) c.requires.blank.modelled in
-    both_ok c.save_freely.result c.save_freely.ensures.image c.save_freely.ensures.image (λ image again. opened_kept_on d.keeps d.reads mid new m is.0 is.1 is.2 c.requires.fits has k image)
+    both_ok c.save_freely.result c.save_freely.ensures.image c.save_freely.ensures.image (λ image again. opened_kept_on d.keeps d.reads mid new m m.pages m.replica is c.requires.fits has k image)
 
 pub returns-in-Ok-clause-fault : goal.returns-in-Ok-clause-fault
 returns-in-Ok-clause-fault g c =

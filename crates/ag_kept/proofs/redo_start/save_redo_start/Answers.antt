@@ -1,4 +1,4 @@
-use Rattle.std.proofs.Common.{[], ◌∷◌, ◌≡◌, ◌+◌, ◌≤◌, ◌^◌, ◌<◌, IsTrue, sym, ap, ◌∙◌, subst, arith}
+use Rattle.std.proofs.Common.{[], ◌∷◌, IsTrue, sym, ap, ◌∙◌, subst, arith}
 use Rattle.ag_outside.specs.Calls.{TakesAll}
 use Rattle.ag_outside.specs.Disks.{Image}
 use Rattle.ag_outside.specs.Shown.{reads_of, did_of}

@@ -1,4 +1,4 @@
-use Rattle.std.proofs.Common.{◌≡◌, Err, sym, ap, ◌∙◌, subst}
+use Rattle.std.proofs.Common.{Err, sym, ap, ◌∙◌, subst}
 use Rattle.ag_kept.specs.Ending.{EndsSync}
 use Rattle.ag_kept.proofs.Calls.{sync_ends, sync_below, was_synced, leads_later}
 use Rattle.ag_kept.proofs.starting.load_log.Goals as goal

@@ -1,4 +1,4 @@
-use Rattle.std.proofs.Common.{◌≡◌, ℕ, [], ◌∷◌, length, Err, sym, ap, ◌∙◌, subst}
+use Rattle.std.proofs.Common.{◌≡◌, ℕ, [], ◌∷◌, Err, sym, ap, ◌∙◌, subst}
 use Rattle.std.specs.Prelude.{IfOk, IsErrOf}
 use Rattle.ag_outside.specs.Calls.{Piece}
 use Rattle.ag_master.specs.declared.master.Master.{Master}

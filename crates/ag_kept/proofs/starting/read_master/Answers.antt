@@ -1,4 +1,4 @@
-use Rattle.std.proofs.Common.{◌≡◌, IsTrue, Err, refl, sym, ap, ◌∙◌, subst}
+use Rattle.std.proofs.Common.{IsTrue, Err, sym, ap, ◌∙◌, subst}
 use Rattle.ag_outside.specs.declared.order.Arm.TheVariants.{Free}
 use Rattle.ag_outside.specs.Calls.{IsReadOnly}
 use Rattle.ag_outside.specs.Disks.{or_zeros}

@@ -19,7 +19,7 @@ abbrev new : List Record
 new = Put 1 5 (record { len = 1; bytes = 170 ∷ replicate 63 0 }) ∷ Commit 1 (21 ∷ []) ∷ []
 
 abbrev log : Log
-log = with_block opening_kept.log new
+log = with_block (opening_kept 16 0).log new
 
 -- each page has room, where the one version is on page 21
 room : (n page : ℕ) → versions_size (value 16 log.records n page).versions ≤ 8144
@@ -48,7 +48,7 @@ payload = record {
   most = omega arith;
 }
 
-small : block_sectors new ≤ free_sectors opening_kept.log
+small : block_sectors new ≤ free_sectors (opening_kept 16 0).log
 small = omega arith
 
 pub harden-requires-clause-sound : goal.harden-requires-clause-sound

@@ -8,7 +8,7 @@ pub invariant_of-result : goal.invariant_of-result
 invariant_of-result g c =
     let d = g.D.Disk in
     opened_store d.size d.keeps d.reads d.may_hold (reads_of d.reads c.new-disk.result) (λ at. ap (λ (v : ScriptedView _). reads_of d.reads v at) c.new-disk.ensures ∙ c.requires.zeros at) (λ page. c.images.ensures.zeros 0 page)
-    c.open.new.disk c.args.pages c.requires.low c.requires.high (omega (arith, c.requires.room, c.open.ensures.size, ap (λ (v : ScriptedView _). d.size v.disk) c.new-disk.ensures))
+    c.open.new.disk c.args.pages _ c.requires.low c.requires.high (omega (arith, c.requires.room, c.open.ensures.size, ap (λ (v : ScriptedView _). d.size v.disk) c.new-disk.ensures))
     c.in-Ok.ensures.home c.in-Ok.log c.in-Ok.ensures.memory c.in-Ok.ensures.kept c.in-Ok.ensures.pages
     c.in-Ok-new.clean c.in-Ok-new.ensures.count c.in-Ok-new.ensures.applied c.in-Ok-new.ensures.empty
 
@@ -16,6 +16,6 @@ pub returns-in-Ok-new-clause-store : goal.returns-in-Ok-new-clause-store
 returns-in-Ok-new-clause-store g c =
     let d = g.D.Disk in
     opened_seen d.size d.keeps d.reads d.may_hold (reads_of d.reads c.new-disk.result) (λ at. ap (λ (v : ScriptedView _). reads_of d.reads v at) c.new-disk.ensures ∙ c.requires.zeros at) (λ page. c.images.ensures.zeros 0 page)
-    c.open.new.disk c.args.pages c.requires.low c.requires.high (omega (arith, c.requires.room, c.open.ensures.size, ap (λ (v : ScriptedView _). d.size v.disk) c.new-disk.ensures))
+    c.open.new.disk c.args.pages c.args.replica c.requires.low c.requires.high (omega (arith, c.requires.room, c.open.ensures.size, ap (λ (v : ScriptedView _). d.size v.disk) c.new-disk.ensures))
     c.in-Ok.ensures.home c.in-Ok.log c.in-Ok.ensures.memory c.in-Ok.ensures.kept c.in-Ok.ensures.pages
     c.in-Ok-new.clean c.in-Ok-new.ensures.count c.in-Ok-new.ensures.applied c.in-Ok-new.ensures.empty (d.faults c.open.new.disk.disk)
