@@ -12,7 +12,4 @@ mod Logging
 mod Applying
 mod Waits
 mod Closing
-mod TestPages
-mod TestLogs
-mod TestScripts
 mod Examples

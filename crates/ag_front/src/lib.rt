@@ -15,16 +15,4 @@ pub mod plays;
 pub mod read;
 pub mod rule;
 pub mod shared;
-#[cfg(test)]
-mod tests;
-#[cfg(test)]
-mod tests_refusals;
-#[cfg(test)]
-mod tests_script;
-#[cfg(test)]
-mod tests_stripe;
-#[cfg(test)]
-mod tests_threads;
-#[cfg(test)]
-mod tests_turns;
 pub mod view;

@@ -10,6 +10,4 @@ mod opening;
 pub mod play;
 pub mod run;
 pub mod status;
-#[cfg(test)]
-mod tests;
 mod words;

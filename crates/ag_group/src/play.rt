@@ -23,16 +23,6 @@ use ag_script::fault::ScriptFault;
 use ag_script::script::read_events;
 use std::alloc::{AllocError, Global};
 
-#[cfg(test)]
-mod committed;
-#[cfg(test)]
-mod crashes;
-#[cfg(test)]
-mod flushes;
-#[cfg(test)]
-mod stops;
-#[cfg(test)]
-mod tests;
 
 /// Plays the scenario that the source has, and writes its transcript to the sink: a header line, and a line for each answer.
 ///

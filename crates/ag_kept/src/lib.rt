@@ -15,6 +15,3 @@ pub use opening::open;
 pub use reach::{Reach, how_far};
 pub use redo_start::save_redo_start;
 pub use starting::{read_master, start_on};
-
-#[cfg(test)]
-mod tests;

@@ -51,6 +51,3 @@ struct Header {
     count: u8,
     used: u16,
 }
-
-#[cfg(test)]
-mod tests;

@@ -17,8 +17,3 @@ pub use fault::LogFault;
 pub use hardened::HardenedLog;
 pub use sizes::{block_sectors_of, copy_of, records_size};
 pub use store::{LogStore, load};
-
-#[cfg(test)]
-mod disk_tests;
-#[cfg(test)]
-mod tests;

@@ -10,8 +10,4 @@ pub mod message;
 pub mod page_set;
 pub mod record;
 pub mod stands;
-#[cfg(test)]
-mod tests;
-#[cfg(test)]
-mod tests_stands;
 pub mod value;

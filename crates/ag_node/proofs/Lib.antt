@@ -20,4 +20,3 @@ pub mod StartSteps
 pub mod HomeSteps
 pub mod FlushSteps
 pub mod Cutting
-mod TestLogs

@@ -10,6 +10,4 @@ mod peer;
 mod published;
 mod room;
 pub mod site;
-#[cfg(test)]
-mod tests;
 mod txns;

@@ -378,6 +378,3 @@ impl<D: Disk> Disk for Scripted<D> {
         self.sync_below()
     }
 }
-
-#[cfg(test)]
-mod tests;

@@ -15,6 +15,3 @@ pub use home::{Got, HomeError, PageHome};
 pub use image::{Image, marks};
 pub use reading::from_image;
 pub use writing::to_image;
-
-#[cfg(test)]
-mod tests;

@@ -287,6 +287,3 @@ impl Pages {
         Ok(())
     }
 }
-
-#[cfg(test)]
-mod tests;

@@ -12,6 +12,3 @@ mod redoing;
 
 pub use flush::FlushFault;
 pub use pages::Pages;
-
-#[cfg(test)]
-mod tests;

@@ -13,6 +13,3 @@ pub use batch::{PageWrite, write_batch};
 pub use fault::{PageReadFault, PageWriteFault};
 pub use reading::{read, read_cells};
 pub use store::PageStore;
-
-#[cfg(test)]
-mod tests;

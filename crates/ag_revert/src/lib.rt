@@ -3,12 +3,8 @@
 
 mod forks;
 pub mod laws;
-#[cfg(test)]
-mod plan_tests;
 mod planning;
 mod plans;
-#[cfg(test)]
-mod tests;
 mod touching;
 
 pub use forks::fork;

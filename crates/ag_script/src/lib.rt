@@ -12,8 +12,6 @@ mod look_lines;
 mod member_lines;
 mod pairs;
 pub mod script;
-#[cfg(test)]
-mod tests;
 mod transaction_lines;
 mod word;
 mod words;

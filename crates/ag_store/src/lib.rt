@@ -13,6 +13,3 @@ mod store;
 pub use fault::ReadFault;
 pub use flushing::flush_pages;
 pub use store::Store;
-
-#[cfg(test)]
-mod tests;

@@ -15,6 +15,3 @@ mod visiting;
 pub use fault::StripeFault;
 pub use slot::Slot;
 pub use stripe::{Away, Stripe};
-
-#[cfg(test)]
-mod tests;

@@ -4,7 +4,5 @@
 pub mod answer;
 pub mod header;
 mod refusal;
-#[cfg(test)]
-mod tests;
 mod text;
 mod words;

@@ -12,6 +12,3 @@ pub use edits::{abort, put, stamp};
 pub use fault::PutFault;
 pub use rows::row_at;
 pub use trimming::trim;
-
-#[cfg(test)]
-mod tests;

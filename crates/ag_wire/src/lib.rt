@@ -6,8 +6,6 @@ mod encoding;
 mod fault;
 mod fields;
 pub mod laws;
-#[cfg(test)]
-mod tests;
 
 pub use decoding::decode;
 pub use encoding::encode;

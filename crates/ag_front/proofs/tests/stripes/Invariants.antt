@@ -1,7 +1,0 @@
-use Rattle.std.proofs.Common.{◌≤◌}
-use Rattle.ag_front.proofs.TestLogs.{AreNew}
-use Rattle.ag_front.proofs.TestPages.{standing_of}
-use Rattle.ag_front.proofs.tests.stripes.Given as goal
-
-abbrev pub invariant-loop-number : goal.invariant-loop-number
-invariant-loop-number g l = record { new : AreNew (λ s. standing_of s.number s.opening s.applied s.value) l.all.items l.number; most : l.number ≤ 16 }
