@@ -7,7 +7,7 @@ use Rattle.ag_outside.specs.declared.order.Arm.TheVariants.{Stop as StopOrder}
 use Rattle.ag_outside.specs.declared.order.Why.{Why}
 use Rattle.ag_outside.specs.declared.order.Why.TheVariants.{Nothing, Stopped, Device, Inner}
 use Rattle.ag_outside.specs.Counts.{HasRisen}
-use Rattle.ag_outside.specs.Disks.{Image, put, put_all}
+use Rattle.ag_outside.specs.Disks.{Content, Image, put, put_all}
 use Rattle.ag_outside.specs.Calls.{Piece}
 use Rattle.ag_outside.specs.Scripts.{ScriptedView}
 use Rattle.ag_outside.specs.Shown.{reads_of}
@@ -48,11 +48,11 @@ pub record Wrote {D : Type 0} (keeps : D → Bool) (reads : D → Image) (old ne
   pub settled : IsSettled keeps old new
   pub far : MayReach old.order (next old.writes) (next old.calls) (next (next old.calls)) r
 
-module _ {D : Type 0} (keeps : D → Bool) (reads : D → Image) (faults : D → ℕ) (old new : ScriptedView D) (m : Master) (k : IsTrue (keeps old.disk)) where
+module _ {D : Type 0} (keeps : D → Bool) (reads : D → Image) (may_hold : D → ℕ → Content → Type 0) (faults : D → ℕ) (old new : ScriptedView D) (m : Master) (k : IsTrue (keeps old.disk)) where
   abbrev pub piece_of : Piece
   piece_of = record { first = 0; sectors = spelling m ∷ [] }
 
-  pub wrote : (w : Why) → EndsBy keeps reads faults old piece_of new w → IfOk (reach_of w 1) (Wrote keeps reads old new m)
+  pub wrote : (w : Why) → EndsBy keeps reads may_hold faults old piece_of new w → IfOk (reach_of w 1) (Wrote keeps reads old new m)
   wrote Nothing e = tt
   wrote (Stopped write count) e =
       let mask = e.0 in
@@ -66,7 +66,7 @@ module _ {D : Type 0} (keeps : D → Bool) (reads : D → Image) (faults : D →
   wrote Device e = record { image = e.2 k; settled = e.1; far = e.0 }
   wrote Inner e = tt
 
-  pub write_below : (w : Why) → EndsBy keeps reads faults old piece_of new w → IsErrOf (reach_of w 1) DiskFault → HasRisen (faults old.disk) (faults new.disk)
+  pub write_below : (w : Why) → EndsBy keeps reads may_hold faults old piece_of new w → IsErrOf (reach_of w 1) DiskFault → HasRisen (faults old.disk) (faults new.disk)
   write_below Nothing e is = absurd e
   write_below (Stopped write count) e is = absurd (cc is)
   write_below Device e is = absurd (cc is)

@@ -8,7 +8,7 @@ use Rattle.ag_outside.specs.declared.order.Arm.TheVariants.{Free, Stop, Fail}
 use Rattle.ag_outside.specs.declared.order.Why.{Why}
 use Rattle.ag_outside.specs.declared.order.Why.TheVariants.{Nothing, Stopped, Device, Inner}
 use Rattle.ag_outside.specs.Counts.{HasRisen}
-use Rattle.ag_outside.specs.Disks.{Image, writes, put_all}
+use Rattle.ag_outside.specs.Disks.{Content, Image, writes, put_all}
 use Rattle.ag_outside.specs.Calls.{Call, Write_call, Read_call, Sync_call, Leads, changing, Piece, FailsAtRead, TakesAll, FailsOnTheWay, IsReadOnly}
 use Rattle.ag_outside.specs.Scripts.{ScriptedView, kept, overlay, shown}
 use Rattle.ag_outside.specs.Shown.{reads_of, synced_of, Told, ToldAtSync, DidWrite, DidSync, did_of}
@@ -30,9 +30,9 @@ risen_after a b c le (inr most) later = elim (cases_lt b c) [
 abbrev pub ordered : {D : Type 0} → ScriptedView D → Arm → ScriptedView D
 ordered v order = record v { order = order; writes = 0; calls = 0; why = Nothing }
 
-module _ {D : Type 0} (keeps : D → Bool) (reads : D → Image) (faults : D → ℕ) where
+module _ {D : Type 0} (keeps : D → Bool) (reads : D → Image) (may_hold : D → ℕ → Content → Type 0) (faults : D → ℕ) where
   abbrev did : ScriptedView D → Call → ScriptedView D → Type 0
-  did = did_of keeps reads faults
+  did = did_of keeps reads may_hold faults
 
   -- nothing but reads came between
   pub record Quiet (old new : ScriptedView D) : Type 0 where
@@ -163,14 +163,14 @@ module _ {D : Type 0} (keeps : D → Bool) (reads : D → Image) (faults : D →
   synced_is a none = ap (λ ws. shown (reads a.disk) a.lost ws) none
 
   -- a write that failed, and reads before and after it
-  module _ (old m n new : ScriptedView D) (piece : Piece) (none : old.unsynced ≡ []) (p : Quiet old m) (q : Quiet n new) (d : DidWrite keeps reads faults m piece.first piece.sectors (Err Failed) n) where
+  module _ (old m n new : ScriptedView D) (piece : Piece) (none : old.unsynced ≡ []) (p : Quiet old m) (q : Quiet n new) (d : DidWrite keeps reads may_hold faults m piece.first piece.sectors (Err Failed) n) where
     settles : n.unsynced ≡ [] → IsSettled keeps old new
     settles unsynced = record { unsynced = quiet_unsynced n new q ∙ unsynced; keeps_same = q.keeps_same ∙ d.keeps_same ∙ p.keeps_same }
 
     all_is : m.unsynced ++ writes piece.first piece.sectors ≡ writes piece.first piece.sectors
     all_is = ap (λ ws. ws ++ writes piece.first piece.sectors) (quiet_unsynced old m p ∙ none)
 
-    write_told : (w : Why) → Told keeps reads faults m n (m.unsynced ++ writes piece.first piece.sectors) w → EndsBy keeps reads faults old piece new w
+    write_told : (w : Why) → Told keeps reads may_hold faults m n (m.unsynced ++ writes piece.first piece.sectors) w → EndsBy keeps reads may_hold faults old piece new w
     write_told Nothing t = absurd t
     write_told (Stopped write count) t =
         let mask = t.0 in (
@@ -190,10 +190,10 @@ module _ {D : Type 0} (keeps : D → Bool) (reads : D → Image) (faults : D →
     )
     write_told Inner t = risen_before (faults old.disk) (faults m.disk) (faults new.disk) p.later (risen_after (faults m.disk) (faults n.disk) (faults new.disk) d.later t q.later)
 
-    write_failed : EndsBy keeps reads faults old piece new new.why
+    write_failed : EndsBy keeps reads may_hold faults old piece new new.why
     write_failed = elim q.why [
-      | inl same ↦ subst (λ w. EndsBy keeps reads faults old piece new w) (sym same) (write_told n.why (d.told refl))
-      | inr inner ↦ subst (λ w. EndsBy keeps reads faults old piece new w) (sym inner.0) (risen_before (faults old.disk) (faults n.disk) (faults new.disk) (omega (arith, p.later, d.later)) inner.1)
+      | inl same ↦ subst (λ w. EndsBy keeps reads may_hold faults old piece new w) (sym same) (write_told n.why (d.told refl))
+      | inr inner ↦ subst (λ w. EndsBy keeps reads may_hold faults old piece new w) (sym inner.0) (risen_before (faults old.disk) (faults n.disk) (faults new.disk) (omega (arith, p.later, d.later)) inner.1)
     ]
 
   -- why a sync failed, where something may be kept back
@@ -204,8 +204,8 @@ module _ {D : Type 0} (keeps : D → Bool) (reads : D → Image) (faults : D →
   SyncTold a new Inner = HasRisen (faults a.disk) (faults new.disk)
 
   -- a sync that failed, and reads before and after it
-  module _ (a m n new : ScriptedView D) (p : Quiet a m) (q : Quiet n new) (d : DidSync keeps reads faults m (Err Failed) n) where
-    sync_told : (w : Why) → ToldAtSync keeps reads faults m n w → SyncTold a new w
+  module _ (a m n new : ScriptedView D) (p : Quiet a m) (q : Quiet n new) (d : DidSync keeps reads may_hold faults m (Err Failed) n) where
+    sync_told : (w : Why) → ToldAtSync keeps reads may_hold faults m n w → SyncTold a new w
     sync_told Nothing t = absurd t
     sync_told (Stopped write count) t = absurd t
     sync_told Device t = (
@@ -221,14 +221,14 @@ module _ {D : Type 0} (keeps : D → Bool) (reads : D → Image) (faults : D →
       | inr inner ↦ subst (λ w. SyncTold a new w) (sym inner.0) (risen_before (faults a.disk) (faults n.disk) (faults new.disk) (omega (arith, p.later, d.later)) inner.1)
     ]
 
-  ends_sync : (old new : ScriptedView D) → old.unsynced ≡ [] → (w : Why) → SyncTold old new w → EndsSync keeps reads faults old new w
+  ends_sync : (old new : ScriptedView D) → old.unsynced ≡ [] → (w : Why) → SyncTold old new w → EndsSync keeps reads may_hold faults old new w
   ends_sync old new none Nothing t = absurd t
   ends_sync old new none (Stopped write count) t = absurd t
   ends_sync old new none Device t = (t.0, t.1, λ k. t.2 k ∙ sym (synced_is old none))
   ends_sync old new none Inner t = t
 
   -- a piece that was kept back, and a sync that failed
-  module _ (old m n new : ScriptedView D) (piece : Piece) (none : old.unsynced ≡ []) (p : Quiet old m) (d : DidWrite keeps reads faults m piece.first piece.sectors (Ok (record {})) n) where
+  module _ (old m n new : ScriptedView D) (piece : Piece) (none : old.unsynced ≡ []) (p : Quiet old m) (d : DidWrite keeps reads may_hold faults m piece.first piece.sectors (Ok (record {})) n) where
     back : n ≡ record m { unsynced = m.unsynced ++ writes piece.first piece.sectors; writes = n.writes; calls = n.calls }
     back = d.kept_back
 
@@ -238,7 +238,7 @@ module _ {D : Type 0} (keeps : D → Bool) (reads : D → Image) (faults : D →
     synced_same : synced_of reads n ≡ reads_of reads old
     synced_same = ap (λ (v : ScriptedView D). synced_of reads v) back ∙ quiet_synced old m p ∙ sym (synced_is old none)
 
-    ends_write : (w : Why) → SyncTold n new w → EndsBy keeps reads faults old piece new w
+    ends_write : (w : Why) → SyncTold n new w → EndsBy keeps reads may_hold faults old piece new w
     ends_write Nothing t = absurd t
     ends_write (Stopped write count) t = absurd t
     ends_write Device t = (
@@ -250,11 +250,11 @@ module _ {D : Type 0} (keeps : D → Bool) (reads : D → Image) (faults : D →
 
   -- ---- what was promised of the calls, in these words
 
-  pub write_ends : (old new : ScriptedView D) (piece : Piece) → old.unsynced ≡ [] → FailsOnTheWay did old (piece ∷ []) new → EndsBy keeps reads faults old piece new new.why
+  pub write_ends : (old new : ScriptedView D) (piece : Piece) → old.unsynced ≡ [] → FailsOnTheWay did old (piece ∷ []) new → EndsBy keeps reads may_hold faults old piece new new.why
   write_ends old new piece none f = elim f.last [
     | inr read ↦
         let r = failed_read old new f.calls read f.leads in
-        subst (λ w. EndsBy keeps reads faults old piece new w) (sym r.0) r.1
+        subst (λ w. EndsBy keeps reads may_hold faults old piece new w) (sym r.0) r.1
     | inl breaks ↦ elim breaks [
       | inl written ↦
           let c = first_change old new f.calls (Write_call piece.first piece.sectors (Err Failed)) [] written f.leads in
@@ -266,11 +266,11 @@ module _ {D : Type 0} (keeps : D → Bool) (reads : D → Image) (faults : D →
     ]
   ]
 
-  pub sync_ends : (old new : ScriptedView D) → old.unsynced ≡ [] → FailsOnTheWay did old [] new → EndsSync keeps reads faults old new new.why
+  pub sync_ends : (old new : ScriptedView D) → old.unsynced ≡ [] → FailsOnTheWay did old [] new → EndsSync keeps reads may_hold faults old new new.why
   sync_ends old new none f = elim f.last [
     | inr read ↦
         let r = failed_read old new f.calls read f.leads in
-        subst (λ w. EndsSync keeps reads faults old new w) (sym r.0) r.1
+        subst (λ w. EndsSync keeps reads may_hold faults old new w) (sym r.0) r.1
     | inl breaks ↦
         let s = first_change old new f.calls (Sync_call (Err Failed)) [] breaks f.leads in
         ends_sync old new none new.why (sync_failed old s.from s.to new s.before (quiet_calls s.to new s.calls s.rest s.leads) s.does)
@@ -283,7 +283,7 @@ module _ {D : Type 0} (keeps : D → Bool) (reads : D → Image) (faults : D →
   was_synced old new t =
       let s = first_change old new t.calls (Sync_call (Ok (record {}))) [] t.all t.leads in
       let q = quiet_calls s.to new s.calls s.rest s.leads in
-      let d : DidSync keeps reads faults s.from (Ok (record {})) s.to = s.does in
+      let d : DidSync keeps reads may_hold faults s.from (Ok (record {})) s.to = s.does in
       record {
         settled = record { unsynced = quiet_unsynced s.to new q ∙ d.handed_down; keeps_same = q.keeps_same ∙ d.keeps_same ∙ s.before.keeps_same };
         later = omega (arith, s.before.later, d.later, q.later);
@@ -298,8 +298,8 @@ module _ {D : Type 0} (keeps : D → Bool) (reads : D → Image) (faults : D →
       let c = first_change old new t.calls (Write_call piece.first piece.sectors (Ok (record {}))) (Sync_call (Ok (record {})) ∷ []) t.all t.leads in
       let s = first_change c.to new c.calls (Sync_call (Ok (record {}))) [] c.rest c.leads in
       let q = quiet_calls s.to new s.calls s.rest s.leads in
-      let w : DidWrite keeps reads faults c.from piece.first piece.sectors (Ok (record {})) c.to = c.does in
-      let d : DidSync keeps reads faults s.from (Ok (record {})) s.to = s.does in
+      let w : DidWrite keeps reads may_hold faults c.from piece.first piece.sectors (Ok (record {})) c.to = c.does in
+      let d : DidSync keeps reads may_hold faults s.from (Ok (record {})) s.to = s.does in
       let order : c.from.order ≡ old.order = quiet_order old c.from c.before in
       let writes : c.to.writes ≡ next old.writes = w.writes_counted ∙ ap next (quiet_writes old c.from c.before) in
       let count : c.to.calls ≡ next old.calls = w.calls_counted ∙ ap next (quiet_count old c.from c.before) in
@@ -324,14 +324,14 @@ module _ {D : Type 0} (keeps : D → Bool) (reads : D → Image) (faults : D →
   pub free_fails : (old armed new : ScriptedView D) → armed ≡ ordered old Free → old.unsynced ≡ [] → FailsOnTheWay did armed [] new → HasRisen (faults old.disk) (faults new.disk)
   free_fails old armed new is none f = below new.why (sync_ends (ordered old Free) new none (subst (λ v. FailsOnTheWay did v [] new) is f))
     where
-      below : (w : Why) → EndsSync keeps reads faults (ordered old Free) new w → HasRisen (faults old.disk) (faults new.disk)
+      below : (w : Why) → EndsSync keeps reads may_hold faults (ordered old Free) new w → HasRisen (faults old.disk) (faults new.disk)
       below Nothing e = absurd e
       below (Stopped write count) e = absurd e
       below Device e = absurd (cc e.0)
       below Inner e = e
 
   -- a sync that failed, but not by its order
-  pub sync_below : (old new : ScriptedView D) (w : Why) → EndsSync keeps reads faults old new w → (w ≡ Device → ⊥) → HasRisen (faults old.disk) (faults new.disk)
+  pub sync_below : (old new : ScriptedView D) (w : Why) → EndsSync keeps reads may_hold faults old new w → (w ≡ Device → ⊥) → HasRisen (faults old.disk) (faults new.disk)
   sync_below old new Nothing e other = absurd e
   sync_below old new (Stopped write count) e other = absurd e
   sync_below old new Device e other = absurd (other refl)

@@ -63,7 +63,7 @@ one_or_two call low high = elim (cases_lt call 2) [
   | inr more ↦ inr (omega (arith, high, more))
 ]
 
-module _ {D : Type 0} (keeps : D → Bool) (reads : D → Image) (faults : D → ℕ) (old new : ScriptedView D) (s : StoreView) (b : Stored) (suffix : Suffix)
+module _ {D : Type 0} (keeps : D → Bool) (reads : D → Image) (may_hold : D → ℕ → Content → Type 0) (faults : D → ℕ) (old new : ScriptedView D) (s : StoreView) (b : Stored) (suffix : Suffix)
     (order : old.order ≡ order_of suffix) (none : old.writes ≡ 0) (no_calls : old.calls ≡ 0) (k : IsTrue (keeps old.disk)) (cur : IsCurrent (reads_of reads old) s) (f : Follows s b) where
   abbrev the_piece : Piece
   the_piece = record { first = sector_after s.log; sectors = sectors_of b }
@@ -88,7 +88,7 @@ module _ {D : Type 0} (keeps : D → Bool) (reads : D → Image) (faults : D →
   was_fault : (call : ℕ) → call ≤ 2 → old.order ≡ FailOrder call → Fault ≡ how_far suffix (block_sectors b.records) 2
   was_fault call le is = sym (far_fail suffix call (block_sectors b.records) 2 (sym order ∙ is) le)
 
-  pub came : (w : Why) → EndsBy keeps reads faults old the_piece new w → IfOk (reach_of w (block_sectors b.records)) (Came keeps reads old new s b.records suffix)
+  pub came : (w : Why) → EndsBy keeps reads may_hold faults old the_piece new w → IfOk (reach_of w (block_sectors b.records)) (Came keeps reads old new s b.records suffix)
   came Nothing e = tt
   came (Stopped write count) e =
       let mask = e.0 in
@@ -113,7 +113,7 @@ module _ {D : Type 0} (keeps : D → Bool) (reads : D → Image) (faults : D →
   came Inner e = tt
 
   -- an error comes from the disk below
-  pub below_failed : (w : Why) → EndsBy keeps reads faults old the_piece new w → IsErrOf (reach_of w (block_sectors b.records)) DiskFault → HasRisen (faults old.disk) (faults new.disk)
+  pub below_failed : (w : Why) → EndsBy keeps reads may_hold faults old the_piece new w → IsErrOf (reach_of w (block_sectors b.records)) DiskFault → HasRisen (faults old.disk) (faults new.disk)
   below_failed Nothing e is = absurd e
   below_failed (Stopped write count) e is = absurd (cc is)
   below_failed Device e is = absurd (cc is)
@@ -130,7 +130,7 @@ module _ {D : Type 0} (keeps : D → Bool) (reads : D → Image) (faults : D →
       (omega arith))
 
 -- what a write came to, as it is answered
-pub record Ended {D : Type 0} (keeps : D → Bool) (reads : D → Image) (faults : D → ℕ) (old new : ScriptedView D) (s : StoreView) (records : List Record) (suffix : Suffix) (result : Result Reach KeptFault) : Type 0 where
+pub record Ended {D : Type 0} (keeps : D → Bool) (reads : D → Image) (may_hold : D → ℕ → Content → Type 0) (faults : D → ℕ) (old new : ScriptedView D) (s : StoreView) (records : List Record) (suffix : Suffix) (result : Result Reach KeptFault) : Type 0 where
   pub so_far : IfOk result (Came keeps reads old new s records suffix)
   pub below : IsErrOf result DiskFault → HasRisen (faults old.disk) (faults new.disk)
 
@@ -146,32 +146,32 @@ pub always_ok : {X E : Type 0} {Q : Type 0} (r : Result X E) → Q → OnOk r Q
 always_ok (Ok x) q = q
 always_ok (Err e) q = tt
 
-module _ {D : Type 0} (keeps : D → Bool) (reads : D → Image) (faults : D → ℕ) (old armed new : ScriptedView D) (s : StoreView) (b : Stored) (suffix : Suffix) (order : Arm)
+module _ {D : Type 0} (keeps : D → Bool) (reads : D → Image) (may_hold : D → ℕ → Content → Type 0) (faults : D → ℕ) (old armed new : ScriptedView D) (s : StoreView) (b : Stored) (suffix : Suffix) (order : Arm)
     (is : armed ≡ ordered old order) (order_is : order ≡ order_of suffix) (unsynced : old.unsynced ≡ []) (k : IsTrue (keeps old.disk)) (cur : IsCurrent (reads_of reads old) s) (f : Follows s b) where
   abbrev its_piece : Piece
   its_piece = record { first = sector_after s.log; sectors = sectors_of b }
 
   -- the answer where the write failed
-  pub append_failed : (n : ℕ) (w : Why) (result : Result Reach KeptFault) → FailsOnTheWay (did_of keeps reads faults) armed (its_piece ∷ []) new → w ≡ new.why → n ≡ block_sectors b.records → result ≡ reach_of w n → Ended keeps reads faults old new s b.records suffix result
+  pub append_failed : (n : ℕ) (w : Why) (result : Result Reach KeptFault) → FailsOnTheWay (did_of keeps reads may_hold faults) armed (its_piece ∷ []) new → w ≡ new.why → n ≡ block_sectors b.records → result ≡ reach_of w n → Ended keeps reads may_hold faults old new s b.records suffix result
   append_failed n w result fails why count told =
-      let from : FailsOnTheWay (did_of keeps reads faults) (ordered old order) (its_piece ∷ []) new = subst (λ v. FailsOnTheWay (did_of keeps reads faults) v (its_piece ∷ []) new) is fails in
-      let ends = write_ends keeps reads faults (ordered old order) new its_piece unsynced from in
+      let from : FailsOnTheWay (did_of keeps reads may_hold faults) (ordered old order) (its_piece ∷ []) new = subst (λ v. FailsOnTheWay (did_of keeps reads may_hold faults) v (its_piece ∷ []) new) is fails in
+      let ends = write_ends keeps reads may_hold faults (ordered old order) new its_piece unsynced from in
       let same : result ≡ reach_of new.why (block_sectors b.records) = told ∙ ap (λ x. reach_of x n) why ∙ ap (reach_of new.why) count in
-      let far = came keeps reads faults (ordered old order) new s b suffix order_is refl refl k cur f new.why ends in
+      let far = came keeps reads may_hold faults (ordered old order) new s b suffix order_is refl refl k cur f new.why ends in
       record {
         so_far = subst (λ r. IfOk r (Came keeps reads old new s b.records suffix)) (sym same) (if_ok (reach_of new.why (block_sectors b.records)) far
             (λ r x. record { far = x.far; log = x.log; settled = record { unsynced = x.settled.unsynced; keeps_same = x.settled.keeps_same } }));
-        below = λ e. below_failed keeps reads faults (ordered old order) new s b suffix order_is refl refl k cur f new.why ends (subst (λ r. IsErrOf r DiskFault) same e);
+        below = λ e. below_failed keeps reads may_hold faults (ordered old order) new s b suffix order_is refl refl k cur f new.why ends (subst (λ r. IsErrOf r DiskFault) same e);
       }
 
   -- and where it went well
-  pub append_went : TakesAll (did_of keeps reads faults) armed (its_piece ∷ []) new → (End ≡ how_far suffix (block_sectors b.records) 2) × IsSettled keeps old new × (faults old.disk ≤ faults new.disk)
+  pub append_went : TakesAll (did_of keeps reads may_hold faults) armed (its_piece ∷ []) new → (End ≡ how_far suffix (block_sectors b.records) 2) × IsSettled keeps old new × (faults old.disk ≤ faults new.disk)
   append_went takes =
-      let w = went_through keeps reads faults (ordered old order) new its_piece (subst (λ v. TakesAll (did_of keeps reads faults) v (its_piece ∷ []) new) is takes) in
-      (came_through keeps reads faults (ordered old order) new s b suffix order_is refl refl k cur f w, record { unsynced = w.settled.unsynced; keeps_same = w.settled.keeps_same }, w.later)
+      let w = went_through keeps reads may_hold faults (ordered old order) new its_piece (subst (λ v. TakesAll (did_of keeps reads may_hold faults) v (its_piece ∷ []) new) is takes) in
+      (came_through keeps reads may_hold faults (ordered old order) new s b suffix order_is refl refl k cur f w, record { unsynced = w.settled.unsynced; keeps_same = w.settled.keeps_same }, w.later)
 
-  pub append_later : FailsOnTheWay (did_of keeps reads faults) armed (its_piece ∷ []) new → faults old.disk ≤ faults new.disk
-  append_later fails = subst (λ (v : ScriptedView D). faults v.disk ≤ faults new.disk) is (leads_later keeps reads faults armed new fails.calls fails.leads)
+  pub append_later : FailsOnTheWay (did_of keeps reads may_hold faults) armed (its_piece ∷ []) new → faults old.disk ≤ faults new.disk
+  append_later fails = subst (λ (v : ScriptedView D). faults v.disk ≤ faults new.disk) is (leads_later keeps reads may_hold faults armed new fails.calls fails.leads)
 
   -- the log and the master then
   pub append_leaves : (hold : ℕ → Content → Type 0) (t : StoreView) → (IsTrue (keeps armed.disk) → reads_of reads new ≡ put_all (reads_of reads armed) (writes its_piece.first its_piece.sectors))

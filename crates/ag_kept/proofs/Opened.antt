@@ -59,28 +59,28 @@ blank_ready keeps image hold s zeros is only =
       synced = λ k. only;
     })
 
-module _ {D : Type 0} (keeps : D → Bool) (reads : D → Image) (faults : D → ℕ) (old armed new : ScriptedView D) (is : armed ≡ ordered old Free) (unsynced : old.unsynced ≡ []) where
+module _ {D : Type 0} (keeps : D → Bool) (reads : D → Image) (may_hold : D → ℕ → Content → Type 0) (faults : D → ℕ) (old armed new : ScriptedView D) (is : armed ≡ ordered old Free) (unsynced : old.unsynced ≡ []) where
   -- a write that fails without an order
-  pub free_write_fails : (piece : Piece) → FailsOnTheWay (did_of keeps reads faults) armed (piece ∷ []) new → HasRisen (faults old.disk) (faults new.disk)
-  free_write_fails piece f = below new.why (write_ends keeps reads faults (ordered old Free) new piece unsynced (subst (λ v. FailsOnTheWay (did_of keeps reads faults) v (piece ∷ []) new) is f))
+  pub free_write_fails : (piece : Piece) → FailsOnTheWay (did_of keeps reads may_hold faults) armed (piece ∷ []) new → HasRisen (faults old.disk) (faults new.disk)
+  free_write_fails piece f = below new.why (write_ends keeps reads may_hold faults (ordered old Free) new piece unsynced (subst (λ v. FailsOnTheWay (did_of keeps reads may_hold faults) v (piece ∷ []) new) is f))
     where
-      below : (w : Why) → EndsBy keeps reads faults (ordered old Free) piece new w → HasRisen (faults old.disk) (faults new.disk)
+      below : (w : Why) → EndsBy keeps reads may_hold faults (ordered old Free) piece new w → HasRisen (faults old.disk) (faults new.disk)
       below Nothing e = absurd e
       below (Stopped write count) e = absurd (cc e.1)
       below Device e = elim e.0 [ inl one ↦ absurd (cc one) | inr two ↦ absurd (cc two) ]
       below Inner e = e
 
-  pub free_write_settles : (piece : Piece) → TakesAll (did_of keeps reads faults) armed (piece ∷ []) new → IsSettled keeps old new
+  pub free_write_settles : (piece : Piece) → TakesAll (did_of keeps reads may_hold faults) armed (piece ∷ []) new → IsSettled keeps old new
   free_write_settles piece t =
-      let w = went_through keeps reads faults (ordered old Free) new piece (subst (λ v. TakesAll (did_of keeps reads faults) v (piece ∷ []) new) is t) in
+      let w = went_through keeps reads may_hold faults (ordered old Free) new piece (subst (λ v. TakesAll (did_of keeps reads may_hold faults) v (piece ∷ []) new) is t) in
       record { unsynced = w.settled.unsynced; keeps_same = w.settled.keeps_same }
 
-  pub free_write_later : (piece : Piece) → TakesAll (did_of keeps reads faults) armed (piece ∷ []) new → faults old.disk ≤ faults new.disk
-  free_write_later piece t = (went_through keeps reads faults (ordered old Free) new piece (subst (λ v. TakesAll (did_of keeps reads faults) v (piece ∷ []) new) is t)).later
+  pub free_write_later : (piece : Piece) → TakesAll (did_of keeps reads may_hold faults) armed (piece ∷ []) new → faults old.disk ≤ faults new.disk
+  free_write_later piece t = (went_through keeps reads may_hold faults (ordered old Free) new piece (subst (λ v. TakesAll (did_of keeps reads may_hold faults) v (piece ∷ []) new) is t)).later
 
-  pub free_load_settles : TakesAll (did_of keeps reads faults) armed [] new → IsSettled keeps old new × (faults old.disk ≤ faults new.disk)
+  pub free_load_settles : TakesAll (did_of keeps reads may_hold faults) armed [] new → IsSettled keeps old new × (faults old.disk ≤ faults new.disk)
   free_load_settles t =
-      let w = was_synced keeps reads faults (ordered old Free) new (subst (λ v. TakesAll (did_of keeps reads faults) v [] new) is t) in
+      let w = was_synced keeps reads may_hold faults (ordered old Free) new (subst (λ v. TakesAll (did_of keeps reads may_hold faults) v [] new) is t) in
       (record { unsynced = w.settled.unsynced; keeps_same = w.settled.keeps_same }, w.later)
 
 -- the log of the opening

@@ -29,9 +29,9 @@ use Rattle.ag_kept.proofs.Finding.{log_on_is}
 use Rattle.ag_kept.proofs.Homes.{cut_at_end, can_cut, rises_of, raised_current, next_fits, so_far_home, end_kept, so_far_kept, raise_leaves_pages}
 
 -- what was loaded, where something was
-pub was_loaded : {D : Type 0} (keeps : D → Bool) (reads : D → Image) (faults : D → ℕ) (armed mid : ScriptedView D) (m : Master) (found : Option StoreView) (s : StoreView) → found ≡ Some s
-    → MatchOption found (armed.order ≡ FailOrder (next armed.calls)) (λ t. WasLoaded keeps reads faults armed mid m t) → WasLoaded keeps reads faults armed mid m s
-was_loaded keeps reads faults armed mid m found s is held = subst (λ (o : Option StoreView). MatchOption o (armed.order ≡ FailOrder (next armed.calls)) (λ t. WasLoaded keeps reads faults armed mid m t)) is held
+pub was_loaded : {D : Type 0} (keeps : D → Bool) (reads : D → Image) (may_hold : D → ℕ → Content → Type 0) (faults : D → ℕ) (armed mid : ScriptedView D) (m : Master) (found : Option StoreView) (s : StoreView) → found ≡ Some s
+    → MatchOption found (armed.order ≡ FailOrder (next armed.calls)) (λ t. WasLoaded keeps reads may_hold faults armed mid m t) → WasLoaded keeps reads may_hold faults armed mid m s
+was_loaded keeps reads may_hold faults armed mid m found s is held = subst (λ (o : Option StoreView). MatchOption o (armed.order ≡ FailOrder (next armed.calls)) (λ t. WasLoaded keeps reads may_hold faults armed mid m t)) is held
 
 -- a disk at home with a new order is at home
 pub ordered_home : {D : Type 0} (keeps : D → Bool) (reads : D → Image) (old armed : ScriptedView D) (order : Arm) → armed ≡ ordered old order → IsAtHome keeps reads old → IsAtHome keeps reads armed
@@ -51,8 +51,8 @@ which_call call low high = elim (cases_lt call 2) [
   ]
 ]
 
-module _ {D : Type 0} (keeps : D → Bool) (reads : D → Image) (faults : D → ℕ) (old armed mid : ScriptedView D) (suffix : Suffix) (order : Arm) (m : Master) (s : StoreView)
-    (armed_is : armed ≡ ordered old order) (order_is : order ≡ order_of suffix) (home : IsAtHome keeps reads old) (m_is : m ≡ master_on (reads_of reads old)) (small : m.incarnation + 1 < 2 ^ 64) (l : WasLoaded keeps reads faults armed mid m s) where
+module _ {D : Type 0} (keeps : D → Bool) (reads : D → Image) (may_hold : D → ℕ → Content → Type 0) (faults : D → ℕ) (old armed mid : ScriptedView D) (suffix : Suffix) (order : Arm) (m : Master) (s : StoreView)
+    (armed_is : armed ≡ ordered old order) (order_is : order ≡ order_of suffix) (home : IsAtHome keeps reads old) (m_is : m ≡ master_on (reads_of reads old)) (small : m.incarnation + 1 < 2 ^ 64) (l : WasLoaded keeps reads may_hold faults armed mid m s) where
   abbrev image : Image
   image = reads_of reads old
 

@@ -6,7 +6,7 @@ use Rattle.ag_outside.specs.declared.order.Arm.TheVariants.{Stop, Fail}
 use Rattle.ag_outside.specs.declared.order.Why.{Why}
 use Rattle.ag_outside.specs.declared.order.Why.TheVariants.{Nothing, Stopped, Device, Inner}
 use Rattle.ag_outside.specs.Counts.{HasRisen}
-use Rattle.ag_outside.specs.Disks.{Image, writes, put_all}
+use Rattle.ag_outside.specs.Disks.{Content, Image, writes, put_all}
 use Rattle.ag_outside.specs.Calls.{Piece}
 use Rattle.ag_outside.specs.Scripts.{ScriptedView, kept}
 use Rattle.ag_outside.specs.Shown.{reads_of}
@@ -25,20 +25,20 @@ pub record IsSettled {D : Type 0} (keeps : D → Bool) (old new : ScriptedView D
   pub keeps_same : keeps new.disk ≡ keeps old.disk
 
 -- The write of a piece, or the sync after it, failed, and this says why. A stop leaves what its mask keeps of the piece, a fail nothing of it.
-abbrev pub EndsBy : {D : Type 0} → (D → Bool) → (D → Image) → (D → ℕ) → ScriptedView D → Piece → ScriptedView D → Why → Type 0
-EndsBy keeps reads faults old piece new Nothing = ⊥
-EndsBy keeps reads faults old piece new (Stopped write count) =
+abbrev pub EndsBy : {D : Type 0} → (D → Bool) → (D → Image) → (D → ℕ → Content → Type 0) → (D → ℕ) → ScriptedView D → Piece → ScriptedView D → Why → Type 0
+EndsBy keeps reads may_hold faults old piece new Nothing = ⊥
+EndsBy keeps reads may_hold faults old piece new (Stopped write count) =
     (mask : ℕ) × (old.order ≡ Stop write mask) × (write ≡ next old.writes) × (count ≡ min (length (kept mask 0 (writes piece.first piece.sectors))) (2 ^ 32 - 1)) × IsSettled keeps old new × (IsTrue (keeps old.disk) → reads_of reads new ≡ put_all (reads_of reads old) (kept mask 0 (writes piece.first piece.sectors)))
-EndsBy keeps reads faults old piece new Device =
+EndsBy keeps reads may_hold faults old piece new Device =
     ((old.order ≡ Fail (next old.calls)) ⊎ (old.order ≡ Fail (next (next old.calls)))) × IsSettled keeps old new × (IsTrue (keeps old.disk) → reads_of reads new ≡ reads_of reads old)
-EndsBy keeps reads faults old piece new Inner = HasRisen (faults old.disk) (faults new.disk)
+EndsBy keeps reads may_hold faults old piece new Inner = HasRisen (faults old.disk) (faults new.disk)
 
 -- The sync failed, and this says why.
-abbrev pub EndsSync : {D : Type 0} → (D → Bool) → (D → Image) → (D → ℕ) → ScriptedView D → ScriptedView D → Why → Type 0
-EndsSync keeps reads faults old new Nothing = ⊥
-EndsSync keeps reads faults old new (Stopped write count) = ⊥
-EndsSync keeps reads faults old new Device = (old.order ≡ Fail (next old.calls)) × IsSettled keeps old new × (IsTrue (keeps old.disk) → reads_of reads new ≡ reads_of reads old)
-EndsSync keeps reads faults old new Inner = HasRisen (faults old.disk) (faults new.disk)
+abbrev pub EndsSync : {D : Type 0} → (D → Bool) → (D → Image) → (D → ℕ → Content → Type 0) → (D → ℕ) → ScriptedView D → ScriptedView D → Why → Type 0
+EndsSync keeps reads may_hold faults old new Nothing = ⊥
+EndsSync keeps reads may_hold faults old new (Stopped write count) = ⊥
+EndsSync keeps reads may_hold faults old new Device = (old.order ≡ Fail (next old.calls)) × IsSettled keeps old new × (IsTrue (keeps old.disk) → reads_of reads new ≡ reads_of reads old)
+EndsSync keeps reads may_hold faults old new Inner = HasRisen (faults old.disk) (faults new.disk)
 
 -- a piece was written and synced, and no order reached
 pub record WentThrough {D : Type 0} (keeps : D → Bool) (faults : D → ℕ) (old new : ScriptedView D) : Type 0 where

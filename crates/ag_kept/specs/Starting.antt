@@ -1,7 +1,7 @@
 -- What a start does to the disk of a replica.
 use Rattle.std.specs.Prelude.{◌≡◌, ◌+◌, ℕ, Bool, false, if◌then◌else◌}
 use Rattle.ag_model.specs.declared.record.Log.{Log}
-use Rattle.ag_outside.specs.Disks.{Image, put}
+use Rattle.ag_outside.specs.Disks.{Content, Image, put}
 use Rattle.ag_outside.specs.Scripts.{ScriptedView}
 use Rattle.ag_outside.specs.Shown.{reads_of}
 use Rattle.ag_master.specs.declared.master.Master.{Master}
@@ -33,7 +33,7 @@ raised_so_far image m (Stop whole) = if whole then with_master image m else imag
 raised_so_far image m Fault = image
 
 -- a store was loaded from a disk, which was synced
-pub record WasLoaded {D : Type 0} (keeps : D → Bool) (reads : D → Image) (faults : D → ℕ) (old new : ScriptedView D) (m : Master) (s : StoreView) : Type 0 where
+pub record WasLoaded {D : Type 0} (keeps : D → Bool) (reads : D → Image) (may_hold : D → ℕ → Content → Type 0) (faults : D → ℕ) (old new : ScriptedView D) (m : Master) (s : StoreView) : Type 0 where
   pub cut : s.cut ≡ m.cut
   pub incarnation : s.incarnation ≡ m.incarnation
   pub is_open : s.is_closed ≡ false

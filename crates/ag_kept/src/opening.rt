@@ -94,7 +94,7 @@ pub(crate) fn save_freely<D: Disk>(disk: &mut Scripted<D>, master: &Master) -> R
     ensures image { OnOk result (reads_of D.reads disk.new ≡ with_master (reads_of D.reads disk.old) master.now) }
     ensures settled { OnOk result (IsSettled D.keeps disk.old disk.new) }
     ensures durable { OnOk result (Only (reads_of D.reads disk.new) (holds_of D.keeps D.may_hold disk.new)) }
-    ensures calls { OnOk result (TakesAll (did_of D.keeps D.reads D.faults) (freed disk.old) (master_piece master.now ∷ []) disk.new) }
+    ensures calls { OnOk result (TakesAll (did_of D.keeps D.reads D.may_hold D.faults) (freed disk.old) (master_piece master.now ∷ []) disk.new) }
     ensures later { OnOk result (D.faults disk.old.disk ≤ D.faults disk.new.disk) }
     ensures fault { IsErrOf result KeptFault.DiskFault → HasRisen (D.faults disk.old.disk) (D.faults disk.new.disk) }
     ensures size { D.size disk.new.disk ≡ D.size disk.old.disk }

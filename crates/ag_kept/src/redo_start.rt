@@ -23,7 +23,7 @@ pub fn save_redo_start<D: Disk>(disk: &mut Scripted<D>, redo: u64) -> Result<(),
     ensures kept { OnOk result ((loaded : Bool) → kept_on (reads_of D.reads disk.new) loaded ≡ record (kept_on (reads_of D.reads disk.old) loaded) { redo = redo }) }
     ensures memory { OnOk result ((s : StoreView) → IsMemory D.keeps D.reads D.may_hold disk.old s → IsMemory D.keeps D.reads D.may_hold disk.new s) }
     ensures pages { OnOk result (SamePages (reads_of D.reads disk.old) (reads_of D.reads disk.new)) }
-    ensures calls { OnOk result (SavesMaster D.keeps D.reads D.faults disk.old (record (master_on (reads_of D.reads disk.old)) { redo = redo }) disk.new) }
+    ensures calls { OnOk result (SavesMaster D.keeps D.reads D.may_hold D.faults disk.old (record (master_on (reads_of D.reads disk.old)) { redo = redo }) disk.new) }
     ensures later { OnOk result (D.faults disk.old.disk ≤ D.faults disk.new.disk) }
     ensures fault { IsErrOf result KeptFault.DiskFault → HasRisen (D.faults disk.old.disk) (D.faults disk.new.disk) }
     ensures size { D.size disk.new.disk ≡ D.size disk.old.disk }

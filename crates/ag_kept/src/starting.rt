@@ -48,7 +48,7 @@ pub fn read_master<D: Disk>(disk: &mut Scripted<D>) -> Result<Master, KeptFault>
     ensures master { IfOk result (λ m. m ≡ master_on (reads_of D.reads disk.old)) }
     ensures same { OnOk result (reads_of D.reads disk.new ≡ reads_of D.reads disk.old) }
     ensures settled { OnOk result (IsSettled D.keeps disk.old disk.new) }
-    ensures calls { OnOk result (IsReadOnly (did_of D.keeps D.reads D.faults) (freed disk.old) disk.new) }
+    ensures calls { OnOk result (IsReadOnly (did_of D.keeps D.reads D.may_hold D.faults) (freed disk.old) disk.new) }
     ensures later { OnOk result (D.faults disk.old.disk ≤ D.faults disk.new.disk) }
     ensures fault { IsErrOf result KeptFault.DiskFault → HasRisen (D.faults disk.old.disk) (D.faults disk.new.disk) }
     ensures size { D.size disk.new.disk ≡ D.size disk.old.disk }
@@ -69,7 +69,7 @@ pub(crate) fn load_log<D: Disk>(
 ) -> Result<Option<LogStore>, KeptFault>
     requires place { log_end ≤ D.size disk.old.disk }
     requires home { IsAtHome D.keeps D.reads disk.old }
-    ensures loaded { IfOk result (λ found. MatchOption found (disk.old.order ≡ Fail (next disk.old.calls)) (WasLoaded D.keeps D.reads D.faults disk.old disk.new master.now)) }
+    ensures loaded { IfOk result (λ found. MatchOption found (disk.old.order ≡ Fail (next disk.old.calls)) (WasLoaded D.keeps D.reads D.may_hold D.faults disk.old disk.new master.now)) }
     ensures durable { IfOk result (λ found. MatchOption found (Unit {0}) (λ s. Only (reads_of D.reads disk.old) (holds_of D.keeps D.may_hold disk.new))) }
     ensures same { OnOk result (reads_of D.reads disk.new ≡ reads_of D.reads disk.old) }
     ensures settled { OnOk result (IsSettled D.keeps disk.old disk.new) }

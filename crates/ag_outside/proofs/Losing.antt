@@ -6,7 +6,7 @@ use Rattle.std.specs.Prelude.{Result, Ok, Err, IsOk, OnOk, OnErr}
 use Rattle.std.specs.Map.{lookup}
 use Rattle.ag_outside.specs.declared.disk.SectorWrite.{SectorWrite}
 use Rattle.ag_outside.specs.Disks.{Content, Image, put, put_all}
-use Rattle.ag_outside.specs.Scripts.{overlay, shown, LostAsWritten, filler, fillers, marked, with_lost}
+use Rattle.ag_outside.specs.Scripts.{overlay, shown, LostAsWritten, unless_written, filler, fillers, marked, with_lost}
 use Rattle.ag_outside.proofs.Past.{put-at, put-apart}
 use Rattle.ag_outside.proofs.Puts.{put_all-append}
 
@@ -27,6 +27,7 @@ marked_more first mark n k at was lt =
 
 -- a sector that isn't among them
 pub record Out (first mark n at : ℕ) : Type 0 where
+  pub finds : (was : Option ℕ) → unless_written (fillers first mark n) at was ≡ was
   pub marks : (was : Option ℕ) → marked first mark n at was ≡ was
   pub reads : (image : Image) → put_all image (fillers first mark n) at ≡ image at
   pub stays : (image : Image) → with_lost first n image at ≡ image at
@@ -51,7 +52,7 @@ image-apart : (at first : ℕ) (some other : Content) → (at ≡ first → ⊥)
 image-apart at first some other apart = grind (arith, nat_tests)
 
 pub in_or_out : (first mark n at : ℕ) → Out first mark n at ⊎ In first mark n at
-in_or_out first mark zero at = inl (record { marks = λ was. refl; reads = λ image. refl; stays = λ image. refl })
+in_or_out first mark zero at = inl (record { finds = λ was. refl; marks = λ was. refl; reads = λ image. refl; stays = λ image. refl })
 in_or_out first mark (suc n) at = elim (in_or_out (suc first) (suc mark) n at) [
   | inr rest ↦ inr (record {
     own = rest.own;
@@ -67,11 +68,23 @@ in_or_out first mark (suc n) at = elim (in_or_out (suc first) (suc mark) n at) [
       stays = λ image. rest.stays (λ x. if x == first then None else image x) ∙ image-at at first None (image at) is;
     })
     | inr apart ↦ inl (record {
+      finds = λ was. rest.finds (if at == first then None else was) ∙ mark-apart at first None was apart;
       marks = λ was. rest.marks (if at == first then Some mark else was) ∙ mark-apart at first (Some mark) was apart;
       reads = λ image. rest.reads (put image (record { at = first; sector = filler mark })) ∙ put-apart image (record { at = first; sector = filler mark }) at apart;
       stays = λ image. rest.stays (λ x. if x == first then None else image x) ∙ image-apart at first None (image at) apart;
     })
   ]
+]
+
+pub unless_written-append : (xs ys : List SectorWrite) (at : ℕ) (mark : Option ℕ) → unless_written (xs ++ ys) at mark ≡ unless_written ys at (unless_written xs at mark)
+unless_written-append [] ys at mark = refl
+unless_written-append (x ∷ xs) ys at mark = unless_written-append xs ys at (if at == x.at then None else mark)
+
+-- that they were found on the way doesn't matter, as they are lost at the end
+pub marked-over : (first n : ℕ) (kept : List SectorWrite) (at : ℕ) (mark : Option ℕ) → marked first 18 n at (unless_written (kept ++ fillers first 18 n) at mark) ≡ marked first 18 n at (unless_written kept at mark)
+marked-over first n kept at mark = elim (in_or_out first 18 n at) [
+  | inl out ↦ ap (marked first 18 n at) (unless_written-append kept (fillers first 18 n) at mark ∙ out.finds (unless_written kept at mark))
+  | inr among ↦ among.marks (unless_written (kept ++ fillers first 18 n) at mark) ∙ sym (among.marks (unless_written kept at mark))
 ]
 
 -- sectors are lost: `kept` is what was kept back before, with which the fillers were handed down

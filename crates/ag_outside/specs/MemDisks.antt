@@ -1,5 +1,5 @@
 -- What a disk in memory reads, and what a crash may leave of it.
-use Rattle.std.specs.Prelude.{◌≡◌, ◌↔◌, ◌⊎◌, ◌+◌, ◌-◌, ◌^◌, ◌≤◌, ℕ, min, Contains, Result, IsErrOf, List, [], ◌∷◌, length, take, drop, replicate, Option, Some, None, Bool, nat_eq, if◌then◌else◌}
+use Rattle.std.specs.Prelude.{◌≡◌, ◌↔◌, ◌⊎◌, ◌+◌, ◌-◌, ◌^◌, ◌≤◌, ℕ, min, Contains, Result, IsErrOf, List, [], ◌∷◌, length, take, drop, replicate, Some, Bool, nat_eq, if◌then◌else◌}
 use Rattle.std.proofs.Common.{sym, subst}
 use Rattle.std.proofs.lemmas.List.{take_all, drop_all}
 use Rattle.std.proofs.Math.Nat.{le_refl, le_antisymm}

@@ -111,6 +111,7 @@ pub(crate) fn flush<D: Disk>(
     ensures empty { OnOk result (unsynced.new.items ≡ []) }
     ensures same_unsynced { OnErr result (unsynced.new.items ≡ unsynced.old.items) }
     ensures same_lost { OnErr result (lost.new.entries ≡ lost.old.entries) }
+    ensures marks { OnOk result ((at : ℕ) → lookup (nat_eq at) lost.new.entries ≡ unless_written unsynced.old.items at (lookup (nat_eq at) lost.old.entries)) }
     ensures lost { OnOk result (IsTrue (D.keeps disk.old) → LostAsWritten (D.reads disk.old) lost.old.entries → LostAsWritten (D.reads disk.new) lost.new.entries) }
     ensures shown { OnOk result (IsTrue (D.keeps disk.old) → shown (D.reads disk.new) lost.new.entries [] ≡ shown (D.reads disk.old) lost.old.entries unsynced.old.items) }
     ensures below { OnOk result (IsTrue (D.keeps disk.old) → D.reads disk.new ≡ put_all (D.reads disk.old) unsynced.old.items) }
@@ -181,6 +182,8 @@ pub(crate) fn lose<D: Disk>(
     ensures in_range { InRange (D.size disk.new) unsynced.new.items }
     ensures lost { OnOk result (IsTrue (D.keeps disk.old) → LostAsWritten (D.reads disk.old) lost.old.entries → LostAsWritten (D.reads disk.new) lost.new.entries) }
     ensures shown { OnOk result (IsTrue (D.keeps disk.old) → shown (D.reads disk.new) lost.new.entries [] ≡ with_lost first count (shown (D.reads disk.old) lost.old.entries unsynced.old.items)) }
+    ensures below { OnOk result (IsTrue (D.keeps disk.old) → D.reads disk.new ≡ put_all (D.reads disk.old) (unsynced.old.items ++ fillers first 18 count)) }
+    ensures marks { OnOk result ((at : ℕ) → lookup (nat_eq at) lost.new.entries ≡ marked first 18 count at (unless_written unsynced.old.items at (lookup (nat_eq at) lost.old.entries))) }
     ensures durable { OnOk result (Only (shown (D.reads disk.new) lost.new.entries []) (may_show (D.keeps disk.new) (D.may_hold disk.new) lost.new.entries [])) }
     ensures crash { OnErr result (MayAdd (fillers first 18 count) (may_show (D.keeps disk.old) (D.may_hold disk.old) lost.old.entries unsynced.old.items) (may_show (D.keeps disk.new) (D.may_hold disk.new) lost.new.entries unsynced.new.items)) }
     ensures cause { HasCause (D.faults disk.old) (D.faults disk.new) result }

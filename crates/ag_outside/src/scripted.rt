@@ -1,9 +1,10 @@
 //! A disk that follows an order over another one.
-ghost use Rattle.std.specs.Prelude.{◌≡◌, ◌≢◌, ◌⊎◌, ◌-◌, ◌+◌, ◌<◌, ◌≤◌, ◌^◌, ◌++◌, ◌∷◌, [], ℕ, Bool, IsTrue, Some, None, true, false, length, min, OnOk, OnErr, IfOk, IfSome, IfNone, IsErr, IsErrOf};
+ghost use Rattle.std.specs.Prelude.{◌≡◌, ◌≢◌, ◌⊎◌, ◌-◌, ◌+◌, ◌<◌, ◌≤◌, ◌^◌, ◌++◌, ◌∷◌, [], ℕ, Bool, IsTrue, Some, None, true, false, length, min, nat_eq, OnOk, OnErr, IfOk, IfSome, IfNone, IsErr, IsErrOf};
 ghost use Rattle.ag_outside.specs.Calls.{Write_call, Read_call, Sync_call};
 ghost use Rattle.ag_outside.specs.Disks.{put, put_all, writes, MayAdd, SameImages, Only, IsImage, Elapses, HasCause};
 ghost use Rattle.ag_outside.specs.Counts.{HasRisen};
-ghost use Rattle.ag_outside.specs.Scripts.{is_lost, kept, fillers, with_lost, InRange, LostAsWritten};
+ghost use Rattle.std.specs.Map.{lookup};
+ghost use Rattle.ag_outside.specs.Scripts.{is_lost, kept, fillers, marked, unless_written, with_lost, InRange, LostAsWritten};
 ghost use Rattle.ag_outside.specs.Shown.{reads_of, synced_of, holds_of, shown_one, Told, ToldAtSync, did_of};
 
 use crate::disk::{Disk, DiskError, Found, Sector, SectorWrite};
@@ -162,7 +163,7 @@ impl<D: Disk> Scripted<D> {
         requires reached { self.old.writes ≡ write }
         ensures never { IsErr result }
         ensures inner_later { D.faults self.old.disk ≤ D.faults self.new.disk }
-        ensures told { IsErrOf result DiskError.Failed → Told D.keeps D.reads D.faults self.old self.new self.old.unsynced self.new.why }
+        ensures told { IsErrOf result DiskError.Failed → Told D.keeps D.reads D.may_hold D.faults self.old self.new self.old.unsynced self.new.why }
         ensures order { (self.new.order ≡ self.old.order) × (self.new.writes ≡ self.old.writes) × (self.new.calls ≡ self.old.calls) }
         ensures crash { MayAdd [] (holds_of D.keeps D.may_hold self.old) (holds_of D.keeps D.may_hold self.new) }
         ensures cause { HasCause self.old.faults self.new.faults result }
@@ -204,7 +205,7 @@ impl<D: Disk> Scripted<D> {
         ensures uncounted { (self.new.order ≡ self.old.order) × (self.new.writes ≡ self.old.writes) × (self.new.calls ≡ self.old.calls) }
         ensures why { self.new.why ≡ self.old.why ⊎ (self.new.why ≡ Why.Inner) × (result ≡ Err DiskError.Failed) }
         ensures intact { OnOk result (self.new.intact ≡ self.old.intact) }
-        ensures inner { IsErrOf result DiskError.Failed → HasRisen (D.faults self.old.disk) (D.faults self.new.disk) }
+        ensures inner { IsErrOf result DiskError.Failed → (self.new.why ≡ Why.Inner) × HasRisen (D.faults self.old.disk) (D.faults self.new.disk) }
         ensures cause { HasCause self.old.faults self.new.faults result }
         ensures size { D.size self.new.disk ≡ D.size self.old.disk }
         ensures keeps { D.keeps self.new.disk ≡ D.keeps self.old.disk }
@@ -218,12 +219,15 @@ impl<D: Disk> Scripted<D> {
         requires few { count ≤ 16 }
         requires place { first + count ≤ D.size self.old.disk }
         ensures lost { OnOk result (IsTrue (D.keeps self.old.disk) → reads_of D.reads self.new ≡ with_lost first count (reads_of D.reads self.old)) }
+        // Below, each of them is written over, by the marks 18, 19 and so on.
+        ensures below { OnOk result (IsTrue (D.keeps self.old.disk) → D.reads self.new.disk ≡ put_all (D.reads self.old.disk) (self.old.unsynced ++ fillers first 18 count)) }
+        ensures marks { OnOk result ((at : ℕ) → lookup (nat_eq at) self.new.lost ≡ marked first 18 count at (unless_written self.old.unsynced at (lookup (nat_eq at) self.old.lost))) }
         ensures durable { OnOk result (Only (reads_of D.reads self.new) (holds_of D.keeps D.may_hold self.new)) }
         ensures crash { OnErr result (MayAdd (fillers first 18 count) (holds_of D.keeps D.may_hold self.old) (holds_of D.keeps D.may_hold self.new)) }
         ensures uncounted { (self.new.order ≡ self.old.order) × (self.new.writes ≡ self.old.writes) × (self.new.calls ≡ self.old.calls) }
         ensures why { self.new.why ≡ self.old.why ⊎ (self.new.why ≡ Why.Inner) × (result ≡ Err DiskError.Failed) }
         ensures intact { OnOk result (self.new.intact ≡ self.old.intact) }
-        ensures inner { IsErrOf result DiskError.Failed → HasRisen (D.faults self.old.disk) (D.faults self.new.disk) }
+        ensures inner { IsErrOf result DiskError.Failed → (self.new.why ≡ Why.Inner) × HasRisen (D.faults self.old.disk) (D.faults self.new.disk) }
         ensures cause { HasCause self.old.faults self.new.faults result }
         ensures size { D.size self.new.disk ≡ D.size self.old.disk }
         ensures keeps { D.keeps self.new.disk ≡ D.keeps self.old.disk }
@@ -289,7 +293,7 @@ impl<D: Disk> Disk for Scripted<D> {
 
     ghost faults = { λ s. s.faults };
 
-    ghost did = { did_of D.keeps D.reads D.faults };
+    ghost did = { did_of D.keeps D.reads D.may_hold D.faults };
 
     ghost reads_one = { λ s k. shown_one (D.keeps s.disk) (D.may_hold s.disk) (D.reads s.disk) s.lost s.unsynced k (D.reads_one s.disk k) };
 
@@ -315,7 +319,7 @@ impl<D: Disk> Disk for Scripted<D> {
         ensures keeps { D.keeps self.new.disk ≡ D.keeps self.old.disk }
         ensures traced { false ≡ false }
         // What it does beside that.
-        ensures did { did_of D.keeps D.reads D.faults self.old (Write_call first from.now result) self.new }
+        ensures did { did_of D.keeps D.reads D.may_hold D.faults self.old (Write_call first from.now result) self.new }
     {
         self.count_write();
         if fails_at(self.order, self.calls) {
@@ -340,7 +344,7 @@ impl<D: Disk> Disk for Scripted<D> {
         ensures keeps { D.keeps self.new.disk ≡ D.keeps self.old.disk }
         ensures traced { false ≡ false }
         // What it does beside that.
-        ensures did { did_of D.keeps D.reads D.faults self.old (Read_call at result) self.new }
+        ensures did { did_of D.keeps D.reads D.may_hold D.faults self.old (Read_call at result) self.new }
     {
         match newest(&self.unsynced, at) {
             Some(sector) => {
@@ -369,7 +373,7 @@ impl<D: Disk> Disk for Scripted<D> {
         ensures keeps { D.keeps self.new.disk ≡ D.keeps self.old.disk }
         ensures traced { false ≡ false }
         // What it does beside that.
-        ensures did { did_of D.keeps D.reads D.faults self.old (Sync_call result) self.new }
+        ensures did { did_of D.keeps D.reads D.may_hold D.faults self.old (Sync_call result) self.new }
     {
         self.calls = self.calls.saturating_add(1);
         if fails_at(self.order, self.calls) {

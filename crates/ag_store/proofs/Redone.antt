@@ -44,12 +44,12 @@ told-is false image k = absurd (cc k)
 
 -- a scripted disk that was given no order, and then read
 module _ {D : Type 0} (size : D → ℕ) (keeps : D → Bool) (reads : D → Image) (may_hold : D → ℕ → Content → Type 0) (faults : D → ℕ) (old armed new : ScriptedView D) (is : armed ≡ ordered old Free)
-    (was : WasOnlyRead (λ (s : ScriptedView D). size s.disk) (λ (s : ScriptedView D). keeps s.disk) (reads_of reads) (holds_of keeps may_hold) (did_of keeps reads faults) armed new) where
-  was_read : WasOnlyRead (λ (s : ScriptedView D). size s.disk) (λ (s : ScriptedView D). keeps s.disk) (reads_of reads) (holds_of keeps may_hold) (did_of keeps reads faults) (ordered old Free) new
-  was_read = subst (λ (a : ScriptedView D). WasOnlyRead (λ (s : ScriptedView D). size s.disk) (λ (s : ScriptedView D). keeps s.disk) (reads_of reads) (holds_of keeps may_hold) (did_of keeps reads faults) a new) is was
+    (was : WasOnlyRead (λ (s : ScriptedView D). size s.disk) (λ (s : ScriptedView D). keeps s.disk) (reads_of reads) (holds_of keeps may_hold) (did_of keeps reads may_hold faults) armed new) where
+  was_read : WasOnlyRead (λ (s : ScriptedView D). size s.disk) (λ (s : ScriptedView D). keeps s.disk) (reads_of reads) (holds_of keeps may_hold) (did_of keeps reads may_hold faults) (ordered old Free) new
+  was_read = subst (λ (a : ScriptedView D). WasOnlyRead (λ (s : ScriptedView D). size s.disk) (λ (s : ScriptedView D). keeps s.disk) (reads_of reads) (holds_of keeps may_hold) (did_of keeps reads may_hold faults) a new) is was
 
-  quiet_read : Quiet keeps reads faults (ordered old Free) new
-  quiet_read = read_only keeps reads faults (ordered old Free) new was_read.calls
+  quiet_read : Quiet keeps reads may_hold faults (ordered old Free) new
+  quiet_read = read_only keeps reads may_hold faults (ordered old Free) new was_read.calls
 
   pub shown_same : ShowsSame keeps reads may_hold old new
   shown_same = record {

@@ -86,7 +86,7 @@ plain_broken (p ∷ ps) calls b = elim b [
 
 module _ {D : Type 0} (size : D → ℕ) (keeps : D → Bool) (reads : D → Image) (may_hold : D → ℕ → Content → Type 0) (faults : D → ℕ) where
   abbrev did : ScriptedView D → Call → ScriptedView D → Type 0
-  did = did_of keeps reads faults
+  did = did_of keeps reads may_hold faults
 
   -- with no order, a disk says that it failed where the one below did
   record Says (a b : ScriptedView D) : Type 0 where
@@ -107,13 +107,13 @@ module _ {D : Type 0} (size : D → ℕ) (keeps : D → Bool) (reads : D → Ima
     later = omega (arith, p.later, q.later);
   }
 
-  told_free : (a b : ScriptedView D) (all : List SectorWrite) (w : Why) → a.order ≡ Free → Told keeps reads faults a b all w → b.why ≡ w → (b.why ≡ a.why) ⊎ ((b.why ≡ Inner) × HasRisen (faults a.disk) (faults b.disk))
+  told_free : (a b : ScriptedView D) (all : List SectorWrite) (w : Why) → a.order ≡ Free → Told keeps reads may_hold faults a b all w → b.why ≡ w → (b.why ≡ a.why) ⊎ ((b.why ≡ Inner) × HasRisen (faults a.disk) (faults b.disk))
   told_free a b all Nothing free t e = absurd t
   told_free a b all (Stopped write count) free t e = (let order = t.1 in absurd (cc (free, order)))
   told_free a b all Device free t e = (let order = t.0 in absurd (cc (free, order)))
   told_free a b all Inner free t e = inr (e, t)
 
-  told_sync : (a b : ScriptedView D) (w : Why) → a.order ≡ Free → ToldAtSync keeps reads faults a b w → b.why ≡ w → (b.why ≡ a.why) ⊎ ((b.why ≡ Inner) × HasRisen (faults a.disk) (faults b.disk))
+  told_sync : (a b : ScriptedView D) (w : Why) → a.order ≡ Free → ToldAtSync keeps reads may_hold faults a b w → b.why ≡ w → (b.why ≡ a.why) ⊎ ((b.why ≡ Inner) × HasRisen (faults a.disk) (faults b.disk))
   told_sync a b Nothing free t e = absurd t
   told_sync a b (Stopped write count) free t e = absurd t
   told_sync a b Device free t e = (let order = t.0 in absurd (cc (free, order)))
@@ -154,22 +154,22 @@ module _ {D : Type 0} (size : D → ℕ) (keeps : D → Bool) (reads : D → Ima
       record { unsynced = rest.unsynced; keeps_same = rest.keeps_same ∙ leads.1.keeps_same }
   settled_calls a b [] (Sync_call result ∷ calls) e leads =
       let ok : result ≡ Ok (record {}) = synced_is result (Ok (record {})) (head_is (Sync_call result) (Sync_call (Ok (record {}))) (changing calls) [] e) in
-      let done : DidSync keeps reads faults a (Ok (record {})) leads.0 = subst (λ (r : Result (Unit {0}) DiskError). DidSync keeps reads faults a r leads.0) ok leads.1 in
-      let q = read_only keeps reads faults leads.0 b (record { calls = calls; leads = leads.2; reads = tail_is (Sync_call result) (Sync_call (Ok (record {}))) (changing calls) [] e }) in
+      let done : DidSync keeps reads may_hold faults a (Ok (record {})) leads.0 = subst (λ (r : Result (Unit {0}) DiskError). DidSync keeps reads may_hold faults a r leads.0) ok leads.1 in
+      let q = read_only keeps reads may_hold faults leads.0 b (record { calls = calls; leads = leads.2; reads = tail_is (Sync_call result) (Sync_call (Ok (record {}))) (changing calls) [] e }) in
       record { unsynced = ap (λ (v : ScriptedView D). v.unsynced) q.same ∙ done.handed_down; keeps_same = q.keeps_same ∙ done.keeps_same }
   settled_calls a b (p ∷ ps) (Sync_call result ∷ calls) e leads = absurd (cc e)
 
   abbrev Takes : ScriptedView D → List (List PageWrite) → ScriptedView D → Type 0
-  Takes = TakesBatches (λ s. size s.disk) (λ s. keeps s.disk) (reads_of reads) (holds_of keeps may_hold) (did_of keeps reads faults)
+  Takes = TakesBatches (λ s. size s.disk) (λ s. keeps s.disk) (reads_of reads) (holds_of keeps may_hold) (did_of keeps reads may_hold faults)
 
   -- a disk with no order that took batches
   record Wrote (a b : ScriptedView D) : Type 0 where
     settled : IsSettled keeps a b
     says : Says a b
 
-  wrote_reads : (a b : ScriptedView D) → a.unsynced ≡ [] → a.order ≡ Free → WasOnlyRead (λ s. size s.disk) (λ s. keeps s.disk) (reads_of reads) (holds_of keeps may_hold) (did_of keeps reads faults) a b → Wrote a b
+  wrote_reads : (a b : ScriptedView D) → a.unsynced ≡ [] → a.order ≡ Free → WasOnlyRead (λ s. size s.disk) (λ s. keeps s.disk) (reads_of reads) (holds_of keeps may_hold) (did_of keeps reads may_hold faults) a b → Wrote a b
   wrote_reads a b none free r =
-      let q = read_only keeps reads faults a b r.calls in
+      let q = read_only keeps reads may_hold faults a b r.calls in
       record {
         settled = record { unsynced = ap (λ (v : ScriptedView D). v.unsynced) q.same ∙ none; keeps_same = q.keeps_same };
         says = record { free = ap (λ (v : ScriptedView D). v.order) q.same ∙ free; why = q.why; later = q.later };
@@ -201,11 +201,11 @@ module _ {D : Type 0} (size : D → ℕ) (keeps : D → Bool) (reads : D → Ima
     | inr risen ↦ risen.1
   ]
 
-  ends_inner : (a b : ScriptedView D) (w : Why) → EndsSync keeps reads faults a b w → w ≡ Inner → HasRisen (faults a.disk) (faults b.disk)
-  ends_inner a b w ends inner = subst (λ (x : Why). EndsSync keeps reads faults a b x) inner ends
+  ends_inner : (a b : ScriptedView D) (w : Why) → EndsSync keeps reads may_hold faults a b w → w ≡ Inner → HasRisen (faults a.disk) (faults b.disk)
+  ends_inner a b w ends inner = subst (λ (x : Why). EndsSync keeps reads may_hold faults a b x) inner ends
 
   pub breaks_risen : (batches : List (List PageWrite)) (a b : ScriptedView D) → a.unsynced ≡ [] → a.order ≡ Free → a.why ≡ Nothing
-      → BreaksOff (λ s. size s.disk) (λ s. keeps s.disk) (reads_of reads) (holds_of keeps may_hold) (did_of keeps reads faults) a batches b → b.why ≡ Inner → HasRisen (faults a.disk) (faults b.disk)
+      → BreaksOff (λ s. size s.disk) (λ s. keeps s.disk) (reads_of reads) (holds_of keeps may_hold) (did_of keeps reads may_hold faults) a batches b → b.why ≡ Inner → HasRisen (faults a.disk) (faults b.disk)
   breaks_risen batches a b none free nothing h inner =
       let first = wrote_batches h.before a h.mid none free h.took in
       elim h.failed [
@@ -213,7 +213,7 @@ module _ {D : Type 0} (size : D → ℕ) (keeps : D → Bool) (reads : D → Ima
         | inl fails ↦ elim fails.last [
           | inl broke ↦ risen_by a b (says_then a h.mid b first.says (says_calls h.mid b fails.calls first.says.free (plain_broken (pieces (reads_of reads h.mid) h.at) fails.calls broke) fails.leads)) nothing inner
           | inr at_read ↦ risen_before (faults a.disk) (faults h.mid.disk) (faults b.disk) first.says.later
-              (ends_inner h.mid b b.why (sync_ends keeps reads faults h.mid b first.settled.unsynced (record { calls = fails.calls; leads = fails.leads; last = inr at_read })) inner)
+              (ends_inner h.mid b b.why (sync_ends keeps reads may_hold faults h.mid b first.settled.unsynced (record { calls = fails.calls; leads = fails.leads; last = inr at_read })) inner)
         ]
       ]
 
@@ -222,7 +222,7 @@ module _ {D : Type 0} (size : D → ℕ) (keeps : D → Bool) (reads : D → Ima
     pub armed_later : Takes armed batches new → faults old.disk ≤ faults new.disk
     armed_later t = batches_later batches (ordered old Free) new none refl (subst (λ (v : ScriptedView D). Takes v batches new) is t)
 
-    pub armed_breaks : BreaksOff (λ s. size s.disk) (λ s. keeps s.disk) (reads_of reads) (holds_of keeps may_hold) (did_of keeps reads faults) armed batches new → new.why ≡ Inner → HasRisen (faults old.disk) (faults new.disk)
+    pub armed_breaks : BreaksOff (λ s. size s.disk) (λ s. keeps s.disk) (reads_of reads) (holds_of keeps may_hold) (did_of keeps reads may_hold faults) armed batches new → new.why ≡ Inner → HasRisen (faults old.disk) (faults new.disk)
     armed_breaks h inner =
         breaks_risen batches (ordered old Free) new none refl refl
-        (subst (λ (v : ScriptedView D). BreaksOff (λ s. size s.disk) (λ s. keeps s.disk) (reads_of reads) (holds_of keeps may_hold) (did_of keeps reads faults) v batches new) is h) inner
+        (subst (λ (v : ScriptedView D). BreaksOff (λ s. size s.disk) (λ s. keeps s.disk) (reads_of reads) (holds_of keeps may_hold) (did_of keeps reads may_hold faults) v batches new) is h) inner

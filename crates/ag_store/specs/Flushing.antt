@@ -34,7 +34,7 @@ pub record WrotePages {D : Type 0} (keeps : D → Bool) (reads : D → Image) (o
 -- outside of any order the disk took these batches of pages, each with a sync after it
 abbrev pub TakesPages : {D : Type 0} → (D → ℕ) → (D → Bool) → (D → Image) → (D → ℕ → Content → Type 0) → (D → ℕ) → ScriptedView D → List (List PageWrite) → ScriptedView D → Type 0
 TakesPages size keeps reads may_hold faults old taken new =
-    TakesBatches (λ s. size s.disk) (λ s. keeps s.disk) (reads_of reads) (holds_of keeps may_hold) (did_of keeps reads faults) (freed old) taken new
+    TakesBatches (λ s. size s.disk) (λ s. keeps s.disk) (reads_of reads) (holds_of keeps may_hold) (did_of keeps reads may_hold faults) (freed old) taken new
 
 -- each page has an image, by its value in memory, or else by what this image of the disk says
 abbrev pub HaveImages : Image → PagesView → Type 0
@@ -47,7 +47,7 @@ pub record PagesThenMaster {D : Type 0} (size : D → ℕ) (keeps : D → Bool) 
   pub wrote : WrotePages keeps reads old between before after
   pub written_home : IsAtHome keeps reads between
   pub durable : (((page : ℕ) → is_page before page ≡ true → is_dirty before page ≡ false) → Only (reads_of reads old) (holds_of keeps may_hold old)) → Only (reads_of reads between) (holds_of keeps may_hold between)
-  pub master : SavesMaster keeps reads faults between (record (master_on (reads_of reads between)) { redo = redo }) new
+  pub master : SavesMaster keeps reads may_hold faults between (record (master_on (reads_of reads between)) { redo = redo }) new
   pub home : IsAtHome keeps reads new
   pub kept : (loaded : Bool) → kept_on (reads_of reads new) loaded ≡ record (kept_on (reads_of reads between) loaded) { redo = redo }
   pub memory : (s : LogView) → IsMemory keeps reads may_hold between s → IsMemory keeps reads may_hold new s

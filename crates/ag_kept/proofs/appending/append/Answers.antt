@@ -10,7 +10,7 @@ returns-in-Ok-clause-reach g c =
     let block = c.args.block.now in
     let ready = c.requires.ready in
     let f = follows_so s block c.requires.payload ready.least ready.most c.head_fits.ensures c.requires.first c.requires.room in
-    (append_went d.keeps d.reads d.faults c.args.disk.now c.arm.new.self c.append_harden.new.disk s (stored_by s.incarnation block) c.args.suffix.now c.order_of.result c.arm.ensures c.order_of.ensures c.requires.unsynced c.requires.keeps (ready.current c.requires.keeps) f c.in-Ok.ensures.calls).0
+    (append_went d.keeps d.reads d.may_hold d.faults c.args.disk.now c.arm.new.self c.append_harden.new.disk s (stored_by s.incarnation block) c.args.suffix.now c.order_of.result c.arm.ensures c.order_of.ensures c.requires.unsynced c.requires.keeps (ready.current c.requires.keeps) f c.in-Ok.ensures.calls).0
 
 pub returns-in-Ok-clause-settled : goal.returns-in-Ok-clause-settled
 returns-in-Ok-clause-settled g c =
@@ -19,7 +19,7 @@ returns-in-Ok-clause-settled g c =
     let block = c.args.block.now in
     let ready = c.requires.ready in
     let f = follows_so s block c.requires.payload ready.least ready.most c.head_fits.ensures c.requires.first c.requires.room in
-    (append_went d.keeps d.reads d.faults c.args.disk.now c.arm.new.self c.append_harden.new.disk s (stored_by s.incarnation block) c.args.suffix.now c.order_of.result c.arm.ensures c.order_of.ensures c.requires.unsynced c.requires.keeps (ready.current c.requires.keeps) f c.in-Ok.ensures.calls).1
+    (append_went d.keeps d.reads d.may_hold d.faults c.args.disk.now c.arm.new.self c.append_harden.new.disk s (stored_by s.incarnation block) c.args.suffix.now c.order_of.result c.arm.ensures c.order_of.ensures c.requires.unsynced c.requires.keeps (ready.current c.requires.keeps) f c.in-Ok.ensures.calls).1
 
 pub returns-in-Ok-clause-later : goal.returns-in-Ok-clause-later
 returns-in-Ok-clause-later g c =
@@ -28,7 +28,7 @@ returns-in-Ok-clause-later g c =
     let block = c.args.block.now in
     let ready = c.requires.ready in
     let f = follows_so s block c.requires.payload ready.least ready.most c.head_fits.ensures c.requires.first c.requires.room in
-    (append_went d.keeps d.reads d.faults c.args.disk.now c.arm.new.self c.append_harden.new.disk s (stored_by s.incarnation block) c.args.suffix.now c.order_of.result c.arm.ensures c.order_of.ensures c.requires.unsynced c.requires.keeps (ready.current c.requires.keeps) f c.in-Ok.ensures.calls).2
+    (append_went d.keeps d.reads d.may_hold d.faults c.args.disk.now c.arm.new.self c.append_harden.new.disk s (stored_by s.incarnation block) c.args.suffix.now c.order_of.result c.arm.ensures c.order_of.ensures c.requires.unsynced c.requires.keeps (ready.current c.requires.keeps) f c.in-Ok.ensures.calls).2
 
 pub returns-in-Ok-clause-log : goal.returns-in-Ok-clause-log
 returns-in-Ok-clause-log g c =
@@ -37,8 +37,8 @@ returns-in-Ok-clause-log g c =
     let block = c.args.block.now in
     let ready = c.requires.ready in
     let f = follows_so s block c.requires.payload ready.least ready.most c.head_fits.ensures c.requires.first c.requires.room in
-    let settled = (append_went d.keeps d.reads d.faults c.args.disk.now c.arm.new.self c.append_harden.new.disk s (stored_by s.incarnation block) c.args.suffix.now c.order_of.result c.arm.ensures c.order_of.ensures c.requires.unsynced c.requires.keeps (ready.current c.requires.keeps) f c.in-Ok.ensures.calls).1 in
-    append_leaves d.keeps d.reads d.faults c.args.disk.now c.arm.new.self c.append_harden.new.disk s (stored_by s.incarnation block) c.args.suffix.now c.order_of.result c.arm.ensures c.order_of.ensures c.requires.unsynced c.requires.keeps (ready.current c.requires.keeps) f
+    let settled = (append_went d.keeps d.reads d.may_hold d.faults c.args.disk.now c.arm.new.self c.append_harden.new.disk s (stored_by s.incarnation block) c.args.suffix.now c.order_of.result c.arm.ensures c.order_of.ensures c.requires.unsynced c.requires.keeps (ready.current c.requires.keeps) f c.in-Ok.ensures.calls).1 in
+    append_leaves d.keeps d.reads d.may_hold d.faults c.args.disk.now c.arm.new.self c.append_harden.new.disk s (stored_by s.incarnation block) c.args.suffix.now c.order_of.result c.arm.ensures c.order_of.ensures c.requires.unsynced c.requires.keeps (ready.current c.requires.keeps) f
     _ c.append_harden.new.self c.in-Ok.ensures.written c.in-Ok.ensures.log c.in-Ok.ensures.ready (ap (λ (v : StoreView). v.incarnation) c.in-Ok.ensures.ok) settled.keeps_same
 
 pub returns-in-Err-DiskFault-clause-reach : goal.returns-in-Err-DiskFault-clause-reach
@@ -50,7 +50,7 @@ returns-in-Err-DiskFault-clause-reach g c =
     let f = follows_so s block c.requires.payload ready.least ready.most c.head_fits.ensures c.requires.first c.requires.room in
     let sectors = sectors_is block.records c.as_slice.result.now c.in_ok-records_size.field-0 c.block_sectors_of-sectors.result c.in_ok-records_size.ensures c.as_slice.ensures c.block_sectors_of-sectors.ensures in
     let broken = c.append_harden.ensures.broken (c.in-Err-DiskFault.is ∙ ap (λ e. Err e) c.in-Err-DiskFault.field-0-is) in
-    let ended = append_failed d.keeps d.reads d.faults c.args.disk.now c.arm.new.self c.append_harden.new.disk s (stored_by s.incarnation block) c.args.suffix.now c.order_of.result c.arm.ensures c.order_of.ensures c.requires.unsynced c.requires.keeps (ready.current c.requires.keeps) f c.block_sectors_of-sectors.result c.why.result c.reached.result broken c.why.ensures sectors c.reached.ensures in
+    let ended = append_failed d.keeps d.reads d.may_hold d.faults c.args.disk.now c.arm.new.self c.append_harden.new.disk s (stored_by s.incarnation block) c.args.suffix.now c.order_of.result c.arm.ensures c.order_of.ensures c.requires.unsynced c.requires.keeps (ready.current c.requires.keeps) f c.block_sectors_of-sectors.result c.why.result c.reached.result broken c.why.ensures sectors c.reached.ensures in
     if_ok c.reached.result ended.so_far (λ r x. x.far)
 
 pub returns-in-Err-DiskFault-clause-log : goal.returns-in-Err-DiskFault-clause-log
@@ -62,7 +62,7 @@ returns-in-Err-DiskFault-clause-log g c =
     let f = follows_so s block c.requires.payload ready.least ready.most c.head_fits.ensures c.requires.first c.requires.room in
     let sectors = sectors_is block.records c.as_slice.result.now c.in_ok-records_size.field-0 c.block_sectors_of-sectors.result c.in_ok-records_size.ensures c.as_slice.ensures c.block_sectors_of-sectors.ensures in
     let broken = c.append_harden.ensures.broken (c.in-Err-DiskFault.is ∙ ap (λ e. Err e) c.in-Err-DiskFault.field-0-is) in
-    let ended = append_failed d.keeps d.reads d.faults c.args.disk.now c.arm.new.self c.append_harden.new.disk s (stored_by s.incarnation block) c.args.suffix.now c.order_of.result c.arm.ensures c.order_of.ensures c.requires.unsynced c.requires.keeps (ready.current c.requires.keeps) f c.block_sectors_of-sectors.result c.why.result c.reached.result broken c.why.ensures sectors c.reached.ensures in
+    let ended = append_failed d.keeps d.reads d.may_hold d.faults c.args.disk.now c.arm.new.self c.append_harden.new.disk s (stored_by s.incarnation block) c.args.suffix.now c.order_of.result c.arm.ensures c.order_of.ensures c.requires.unsynced c.requires.keeps (ready.current c.requires.keeps) f c.block_sectors_of-sectors.result c.why.result c.reached.result broken c.why.ensures sectors c.reached.ensures in
     if_ok c.reached.result ended.so_far (λ r x. x.log)
 
 pub returns-in-Err-DiskFault-clause-settled : goal.returns-in-Err-DiskFault-clause-settled
@@ -74,7 +74,7 @@ returns-in-Err-DiskFault-clause-settled g c =
     let f = follows_so s block c.requires.payload ready.least ready.most c.head_fits.ensures c.requires.first c.requires.room in
     let sectors = sectors_is block.records c.as_slice.result.now c.in_ok-records_size.field-0 c.block_sectors_of-sectors.result c.in_ok-records_size.ensures c.as_slice.ensures c.block_sectors_of-sectors.ensures in
     let broken = c.append_harden.ensures.broken (c.in-Err-DiskFault.is ∙ ap (λ e. Err e) c.in-Err-DiskFault.field-0-is) in
-    let ended = append_failed d.keeps d.reads d.faults c.args.disk.now c.arm.new.self c.append_harden.new.disk s (stored_by s.incarnation block) c.args.suffix.now c.order_of.result c.arm.ensures c.order_of.ensures c.requires.unsynced c.requires.keeps (ready.current c.requires.keeps) f c.block_sectors_of-sectors.result c.why.result c.reached.result broken c.why.ensures sectors c.reached.ensures in
+    let ended = append_failed d.keeps d.reads d.may_hold d.faults c.args.disk.now c.arm.new.self c.append_harden.new.disk s (stored_by s.incarnation block) c.args.suffix.now c.order_of.result c.arm.ensures c.order_of.ensures c.requires.unsynced c.requires.keeps (ready.current c.requires.keeps) f c.block_sectors_of-sectors.result c.why.result c.reached.result broken c.why.ensures sectors c.reached.ensures in
     on_ok c.reached.result ended.so_far (λ r x. x.settled)
 
 pub returns-in-Err-DiskFault-clause-fault : goal.returns-in-Err-DiskFault-clause-fault
@@ -86,7 +86,7 @@ returns-in-Err-DiskFault-clause-fault g c =
     let f = follows_so s block c.requires.payload ready.least ready.most c.head_fits.ensures c.requires.first c.requires.room in
     let sectors = sectors_is block.records c.as_slice.result.now c.in_ok-records_size.field-0 c.block_sectors_of-sectors.result c.in_ok-records_size.ensures c.as_slice.ensures c.block_sectors_of-sectors.ensures in
     let broken = c.append_harden.ensures.broken (c.in-Err-DiskFault.is ∙ ap (λ e. Err e) c.in-Err-DiskFault.field-0-is) in
-    let ended = append_failed d.keeps d.reads d.faults c.args.disk.now c.arm.new.self c.append_harden.new.disk s (stored_by s.incarnation block) c.args.suffix.now c.order_of.result c.arm.ensures c.order_of.ensures c.requires.unsynced c.requires.keeps (ready.current c.requires.keeps) f c.block_sectors_of-sectors.result c.why.result c.reached.result broken c.why.ensures sectors c.reached.ensures in
+    let ended = append_failed d.keeps d.reads d.may_hold d.faults c.args.disk.now c.arm.new.self c.append_harden.new.disk s (stored_by s.incarnation block) c.args.suffix.now c.order_of.result c.arm.ensures c.order_of.ensures c.requires.unsynced c.requires.keeps (ready.current c.requires.keeps) f c.block_sectors_of-sectors.result c.why.result c.reached.result broken c.why.ensures sectors c.reached.ensures in
     ended.below
 
 pub returns-in-Err-DiskFault-clause-later : goal.returns-in-Err-DiskFault-clause-later
@@ -97,4 +97,4 @@ returns-in-Err-DiskFault-clause-later g c =
     let ready = c.requires.ready in
     let f = follows_so s block c.requires.payload ready.least ready.most c.head_fits.ensures c.requires.first c.requires.room in
     let broken = c.append_harden.ensures.broken (c.in-Err-DiskFault.is ∙ ap (λ e. Err e) c.in-Err-DiskFault.field-0-is) in
-    always_ok c.reached.result (append_later d.keeps d.reads d.faults c.args.disk.now c.arm.new.self c.append_harden.new.disk s (stored_by s.incarnation block) c.args.suffix.now c.order_of.result c.arm.ensures c.order_of.ensures c.requires.unsynced c.requires.keeps (ready.current c.requires.keeps) f broken)
+    always_ok c.reached.result (append_later d.keeps d.reads d.may_hold d.faults c.args.disk.now c.arm.new.self c.append_harden.new.disk s (stored_by s.incarnation block) c.args.suffix.now c.order_of.result c.arm.ensures c.order_of.ensures c.requires.unsynced c.requires.keeps (ready.current c.requires.keeps) f broken)

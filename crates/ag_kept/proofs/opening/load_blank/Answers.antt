@@ -12,7 +12,7 @@ returns-in-Ok-clause-blank g c =
     let d = g.D.Disk in
     let blank = c.requires.blank in
     let k : IsTrue (d.keeps c.arm.new.self.disk) = subst (λ (v : ScriptedView _). IsTrue (d.keeps v.disk)) (sym c.arm.ensures) blank.modelled in
-    let settled = (free_load_settles d.keeps d.reads d.faults c.args.disk.now c.arm.new.self c.load.new.disk c.arm.ensures blank.unsynced c.in-Ok.ensures.calls).0 in
+    let settled = (free_load_settles d.keeps d.reads d.may_hold d.faults c.args.disk.now c.arm.new.self c.load.new.disk c.arm.ensures blank.unsynced c.in-Ok.ensures.calls).0 in
     let same = c.in-Ok.ensures.reads k ∙ ap (reads_of d.reads) c.arm.ensures in
     record {
       modelled = subst IsTrue (sym settled.keeps_same) blank.modelled;
@@ -42,12 +42,12 @@ returns-in-Ok-clause-ready g c =
 pub returns-in-Ok-clause-later : goal.returns-in-Ok-clause-later
 returns-in-Ok-clause-later g c =
     let d = g.D.Disk in
-    (free_load_settles d.keeps d.reads d.faults c.args.disk.now c.arm.new.self c.load.new.disk c.arm.ensures c.requires.blank.unsynced c.in-Ok.ensures.calls).1
+    (free_load_settles d.keeps d.reads d.may_hold d.faults c.args.disk.now c.arm.new.self c.load.new.disk c.arm.ensures c.requires.blank.unsynced c.in-Ok.ensures.calls).1
 
 pub returns-in-Err-DiskFault-clause-fault : goal.returns-in-Err-DiskFault-clause-fault
 returns-in-Err-DiskFault-clause-fault g c = λ e.
     let d = g.D.Disk in
-    free_fails d.keeps d.reads d.faults c.args.disk.now c.arm.new.self c.load.new.disk c.arm.ensures c.requires.blank.unsynced (c.load.ensures.broken (c.in-Err-DiskFault.is ∙ ap (λ e. Err e) c.in-Err-DiskFault.field-0-is))
+    free_fails d.keeps d.reads d.may_hold d.faults c.args.disk.now c.arm.new.self c.load.new.disk c.arm.ensures c.requires.blank.unsynced (c.load.ensures.broken (c.in-Err-DiskFault.is ∙ ap (λ e. Err e) c.in-Err-DiskFault.field-0-is))
 
 pub returns-in-Ok-clause-same : goal.returns-in-Ok-clause-same
 returns-in-Ok-clause-same g c =

@@ -57,5 +57,5 @@ returns-in-Ok-clause-calls g c =
     (λ took again. record {
       between = c.read_master.new.disk;
       read = c.in-Ok.ensures.calls;
-      took = subst (λ (m : Master). TakesAll (did_of d.keeps d.reads d.faults) (freed c.read_master.new.disk) (master_piece (record m { redo = c.args.redo }) ∷ []) c.save_freely.new.disk) c.in-Ok.ensures.master took;
+      took = subst (λ (m : Master). TakesAll (did_of d.keeps d.reads d.may_hold d.faults) (freed c.read_master.new.disk) (master_piece (record m { redo = c.args.redo }) ∷ []) c.save_freely.new.disk) c.in-Ok.ensures.master took;
     })

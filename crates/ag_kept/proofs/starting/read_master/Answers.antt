@@ -31,19 +31,19 @@ returns-in-Ok-clause-master g c =
 pub returns-in-Ok-clause-settled : goal.returns-in-Ok-clause-settled
 returns-in-Ok-clause-settled g c =
     let d = g.D.Disk in
-    (read_settles d.keeps d.reads d.faults c.args.disk.now c.arm.new.self c.load.new.disk Free c.arm.ensures c.requires.home.unsynced c.in-Ok.ensures.calls).0
+    (read_settles d.keeps d.reads d.may_hold d.faults c.args.disk.now c.arm.new.self c.load.new.disk Free c.arm.ensures c.requires.home.unsynced c.in-Ok.ensures.calls).0
 
 pub returns-in-Ok-clause-later : goal.returns-in-Ok-clause-later
 returns-in-Ok-clause-later g c =
     let d = g.D.Disk in
-    (read_settles d.keeps d.reads d.faults c.args.disk.now c.arm.new.self c.load.new.disk Free c.arm.ensures c.requires.home.unsynced c.in-Ok.ensures.calls).1
+    (read_settles d.keeps d.reads d.may_hold d.faults c.args.disk.now c.arm.new.self c.load.new.disk Free c.arm.ensures c.requires.home.unsynced c.in-Ok.ensures.calls).1
 
 pub returns-in-Err-DiskFault-clause-fault : goal.returns-in-Err-DiskFault-clause-fault
 returns-in-Err-DiskFault-clause-fault g c = λ e.
     let d = g.D.Disk in
-    free_fails d.keeps d.reads d.faults c.args.disk.now c.arm.new.self c.load.new.disk c.arm.ensures c.requires.home.unsynced (c.load.ensures.broken (c.in-Err-DiskFault.is ∙ ap (λ e. Err e) c.in-Err-DiskFault.field-0-is))
+    free_fails d.keeps d.reads d.may_hold d.faults c.args.disk.now c.arm.new.self c.load.new.disk c.arm.ensures c.requires.home.unsynced (c.load.ensures.broken (c.in-Err-DiskFault.is ∙ ap (λ e. Err e) c.in-Err-DiskFault.field-0-is))
 
 pub returns-in-Ok-clause-calls : goal.returns-in-Ok-clause-calls
 returns-in-Ok-clause-calls g c =
     let d = g.D.Disk in
-    subst (λ (v : ScriptedView _). IsReadOnly (did_of d.keeps d.reads d.faults) v c.load.new.disk) c.arm.ensures c.in-Ok.ensures.calls
+    subst (λ (v : ScriptedView _). IsReadOnly (did_of d.keeps d.reads d.may_hold d.faults) v c.load.new.disk) c.arm.ensures c.in-Ok.ensures.calls

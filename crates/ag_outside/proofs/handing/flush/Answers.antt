@@ -31,3 +31,6 @@ returns-clause-crash g c =
     let adds = shown-adds (g.D.Disk.keeps d) (g.D.Disk.reads d) (g.D.Disk.reads e) (g.D.Disk.may_hold d) (g.D.Disk.may_hold e) c.args.unsynced.now.items c.args.lost.now.entries c.find.new.lost.entries found written c.in_ok-hand_down.ensures.durable (subst (λ (ws : List SectorWrite). MayAdd ws (g.D.Disk.may_hold d) (g.D.Disk.may_hold e)) c.deref.ensures.value c.hand_down.ensures.crash) in
     subst (λ (ws : List SectorWrite). MayAdd [] before (may_show (g.D.Disk.keeps e) (g.D.Disk.may_hold e) c.find.new.lost.entries ws)) (sym c.clear.ensures.items)
     (subst (λ (b : Bool). MayAdd [] before (may_show b (g.D.Disk.may_hold e) c.find.new.lost.entries [])) (sym c.hand_down.ensures.keeps) adds)
+
+pub returns-clause-marks : goal.returns-clause-marks
+returns-clause-marks g c = subst (λ (ws : List SectorWrite). Found ws c.args.lost.now.entries c.find.new.lost.entries) c.deref-2.ensures.value c.find.ensures.lost

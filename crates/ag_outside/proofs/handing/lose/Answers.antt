@@ -1,9 +1,10 @@
-use Rattle.std.proofs.Common.{[], ◌++◌, List, sym, ap, subst, ◌∙◌}
+use Rattle.std.proofs.Common.{[], ◌++◌, List, nat_eq, sym, ap, subst, ◌∙◌}
+use Rattle.std.specs.Map.{lookup}
 use Rattle.ag_outside.specs.declared.disk.SectorWrite.{SectorWrite}
 use Rattle.ag_outside.specs.Disks.{put_all, MayAdd}
-use Rattle.ag_outside.specs.Scripts.{InRange, may_show, shown, fillers}
+use Rattle.ag_outside.specs.Scripts.{InRange, may_show, shown, fillers, marked, unless_written}
 use Rattle.ag_outside.proofs.Flushed.{reordered-shown, reordered-adds, reordered-lost, kept-adds, only-adds, adds-only, in_range-append, in_range-fillers}
-use Rattle.ag_outside.proofs.Losing.{lose-shown, lose-as_written, on_err}
+use Rattle.ag_outside.proofs.Losing.{lose-shown, lose-as_written, marked-over, on_err}
 use Rattle.ag_outside.proofs.handing.lose.Goals as goal
 
 pub flush-requires : goal.flush-requires
@@ -51,3 +52,16 @@ returns-clause-shown g c =
     let moved = c.reserve.new.self.entries in
     λ k. lose-shown c.args.first c.args.count (g.D.Disk.reads d) (g.D.Disk.reads e) c.args.lost.now.entries c.flush.new.lost.entries c.mark_lost.new.lost.entries kept c.mark_lost.ensures
     (c.in_ok-flush.ensures.shown k ∙ ap (shown (g.D.Disk.reads d) moved) c.in_ok-add_fillers.ensures.ok ∙ reordered-shown c.args.lost.now.entries moved c.reserve.ensures.entries.2 (g.D.Disk.reads d) (kept ++ fill))
+
+pub returns-clause-below : goal.returns-clause-below
+returns-clause-below g c = λ k. c.in_ok-flush.ensures.below k ∙ ap (put_all (g.D.Disk.reads c.args.disk.now)) c.in_ok-add_fillers.ensures.ok
+
+pub returns-clause-marks : goal.returns-clause-marks
+returns-clause-marks g c =
+    let fill = fillers c.args.first 18 c.args.count in
+    let kept = c.args.unsynced.now.items in
+    let lost = c.args.lost.now.entries in
+    let moved = c.reserve.new.self.entries in
+    λ at. c.mark_lost.ensures at
+    ∙ ap (marked c.args.first 18 c.args.count at) (c.in_ok-flush.ensures.marks at ∙ ap (λ ws. unless_written ws at (lookup (nat_eq at) moved)) c.in_ok-add_fillers.ensures.ok ∙ ap (unless_written (kept ++ fill) at) (c.reserve.ensures.entries.2 at))
+    ∙ marked-over c.args.first c.args.count kept at (lookup (nat_eq at) lost)

@@ -41,7 +41,7 @@ returns-in-Ok-clause-wrote g c =
 pub returns-in-Ok-clause-calls : goal.returns-in-Ok-clause-calls
 returns-in-Ok-clause-calls g c =
     let d = g.D.Disk in
-    subst (λ (v : ScriptedView _). TakesBatches (λ s. d.size s.disk) (λ s. d.keeps s.disk) (reads_of d.reads) (holds_of d.keeps d.may_hold) (did_of d.keeps d.reads d.faults) v (batches c.args.pages.now) c.flush.new.disk) c.arm.ensures c.in-Ok.ensures.calls
+    subst (λ (v : ScriptedView _). TakesBatches (λ s. d.size s.disk) (λ s. d.keeps s.disk) (reads_of d.reads) (holds_of d.keeps d.may_hold) (did_of d.keeps d.reads d.may_hold d.faults) v (batches c.args.pages.now) c.flush.new.disk) c.arm.ensures c.in-Ok.ensures.calls
 
 pub returns-in-Ok-clause-durable : goal.returns-in-Ok-clause-durable
 returns-in-Ok-clause-durable g c =
