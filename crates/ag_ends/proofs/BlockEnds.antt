@@ -9,7 +9,7 @@ use Rattle.std.specs.Ordering.{nat_cmp}
 use Rattle.std.proofs.lemmas.Option.{slice_get_past, slice_get-get_or}
 use Rattle.ag_model.specs.Blocks.{end_of_block}
 use Rattle.ag_model.specs.Proper.{RisesFrom}
-use Rattle.ag_ends.proofs.Tests.{by_bool}
+use Rattle.ag_lists.proofs.Tests.{by_bool}
 use Rattle.ag_ends.proofs.Places.{above, found, missed}
 
 -- the first block

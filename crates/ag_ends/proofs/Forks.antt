@@ -1,14 +1,15 @@
 -- Where the starts of two logs say that they part.
 use Rattle.std.proofs.Common.{◌≡◌, ℕ, suc, ◌+◌, ◌≤◌, List, [], ◌∷◌, length, true, refl, ap, ◌∙◌, arith}
 use Rattle.std.specs.Prelude.{◌==◌}
+use Rattle.std.proofs.lemmas.Bool.{and_from}
 use Rattle.ag_model.specs.declared.record.Record.{Record}
 use Rattle.ag_model.specs.declared.record.Record.TheVariants.{Put, Del, Commit, Abort, Trim, Term}
 use Rattle.ag_model.specs.declared.config.TermStart.{TermStart}
 use Rattle.ag_model.specs.Starts.{term_starts, is_same_start, fork_of_starts, is_same_record}
+use Rattle.ag_lists.proofs.Tests.{if_has}
 use Rattle.ag_ends.specs.Starts.{starts_after}
-use Rattle.ag_ends.proofs.Tests.{if_has}
 use Rattle.ag_ends.proofs.Rise.{Rise, rise_lower, rise, first_above}
-use Rattle.ag_ends.proofs.Records.{same_number, and_true}
+use Rattle.ag_ends.proofs.Records.{same_number}
 
 -- logs whose starts rise above an LSN don't part below it
 pub fork_above : (low e e2 : ℕ) (ss ts : List TermStart) → Rise low e ss → Rise low e2 ts → low ≤ fork_of_starts ss e ts e2
@@ -55,6 +56,6 @@ step k (Abort t ps) (Abort u qs) a b e = later_ends k (length a) (length b) (sta
 step k (Trim p h) (Trim q i) a b e = later_ends k (length a) (length b) (starts_after (k + 1) a) (starts_after (k + 1) b)
 step k (Term t) (Term u) a b e =
     fork_passes (record { term = t; lsn = k + 1 }) (record { term = u; lsn = k + 1 }) (starts_after (k + 1) a) (starts_after (k + 1) b) (k + suc (length a)) (k + suc (length b))
-    (and_true (t == u) (k + 1 == k + 1) e (same_number (k + 1)))
+    (and_from (t == u) (k + 1 == k + 1) e (same_number (k + 1)))
     ∙ later_ends k (length a) (length b) (starts_after (k + 1) a) (starts_after (k + 1) b)
 step k _ _ a b e = absurd (cc)

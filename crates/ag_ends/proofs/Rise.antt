@@ -7,8 +7,8 @@ use Rattle.ag_model.specs.declared.config.TermStart.{TermStart}
 use Rattle.ag_model.specs.declared.record.Record.{Record}
 use Rattle.ag_model.specs.declared.record.Record.TheVariants.{Put, Del, Commit, Abort, Trim, Term}
 use Rattle.ag_model.specs.Starts.{end_before}
+use Rattle.ag_lists.proofs.Tests.{if_has}
 use Rattle.ag_ends.specs.Starts.{starts_after}
-use Rattle.ag_ends.proofs.Tests.{if_has}
 
 -- starts rise above low, and none is above high
 abbrev pub Rise : ℕ → ℕ → List TermStart → Type 0

@@ -8,8 +8,8 @@ use Rattle.ag_model.specs.declared.config.TermStart.{TermStart}
 use Rattle.ag_model.specs.declared.record.Record.{Record}
 use Rattle.ag_model.specs.declared.record.Record.TheVariants.{Put, Del, Commit, Abort, Trim, Term}
 use Rattle.ag_model.specs.Starts.{start_by, term_starts, last_term}
+use Rattle.ag_lists.proofs.Tests.{if_has}
 use Rattle.ag_ends.specs.Starts.{starts_after, term_by}
-use Rattle.ag_ends.proofs.Tests.{if_has}
 use Rattle.ag_ends.proofs.Rise.{rise, term_with, none_above}
 
 -- the starts of records one after the other
