@@ -30,7 +30,7 @@ script_more : (c : Config) (es : List Event) (e : Event) → IsScript c es → I
 script_more c [] e all one = (one, tt)
 script_more c (d ∷ ds) e all one = (all.0, script_more c ds e all.1 one)
 
-after_more : (g : Group) (es : List Event) (e : Event) → after_events g (es ++ e ∷ []) ≡ next (after_events g es) e
+pub after_more : (g : Group) (es : List Event) (e : Event) → after_events g (es ++ e ∷ []) ≡ next (after_events g es) e
 after_more g [] e = refl
 after_more g (d ∷ ds) e = after_more (next g d) ds e
 

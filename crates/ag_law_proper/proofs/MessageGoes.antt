@@ -25,11 +25,12 @@ use Rattle.ag_rules.specs.PageAskMessage.{page_ask_part}
 use Rattle.ag_rules.specs.PageGiveMessage.{page_give_part, comes, installs, holds, with_come, is_last, initialising}
 use Rattle.ag_rules.specs.Redo.{may_install, install_of, installed}
 use Rattle.ag_rules.specs.DeliverEvent.{arrives}
+use Rattle.ag_lists.proofs.Tests.{if_has}
+use Rattle.ag_lists.proofs.Each.{all_append}
 use Rattle.ag_laws.specs.Logs.{Logs, Setting}
 use Rattle.ag_laws.specs.At.{At}
 use Rattle.ag_laws.specs.Fits.{IsAnswered, BlockFits, ResumeFits, BodyFits}
-use Rattle.ag_laws.proofs.Plans.{if_has, case_has, question_has, arrival_has}
-use Rattle.ag_laws.proofs.Lists.{all_append}
+use Rattle.ag_laws.proofs.Plans.{case_has, question_has, arrival_has}
 use Rattle.ag_laws.proofs.BlockKeeps.{same_term}
 use Rattle.ag_laws.proofs.Steps.{IsSmall}
 use Rattle.ag_laws.proofs.Disks.{install_is_small}
