@@ -21,7 +21,8 @@ pub fn plan(m: &Master, log_end: u64, term: u64, fork: u64, end: u64, touched: &
     ensures result { result ≡ planned m.now log_end term fork end touched.now }
     ensures continues { result ≡ Continue ↔ IsTrue (still_initialises m.now.state m.now.term log_end term fork) }
     ensures follows { result ≡ Follow ↔ (still_initialises m.now.state m.now.term log_end term fork ≡ false) × (length (union m.now.foreign touched.now) ≡ 0) }
-    ensures reverts { (new : Master) → result ≡ Revert new ↔ (still_initialises m.now.state m.now.term log_end term fork ≡ false) × (0 < length (union m.now.foreign touched.now)) × (new ≡ reverting m.now log_end term fork end (union m.now.foreign touched.now)) }
+    ensures reverts { (new : Master) → result ≡ Revert new
+        ↔ (still_initialises m.now.state m.now.term log_end term fork ≡ false) × (0 < length (union m.now.foreign touched.now)) × (new ≡ reverting m.now log_end term fork end (union m.now.foreign touched.now)) }
 {
     if still_initialises(m, log_end, term, fork) {
         return Plan::Continue;
