@@ -15,12 +15,13 @@ use Rattle.ag_model.specs.Txns.{is_end_of, txn_of, last_txn, rising, open_in}
 use Rattle.ag_model.specs.Starts.{term_starts, last_term}
 use Rattle.ag_rules.specs.SetEvent.{pages_of_pairs, records_of_set}
 use Rattle.ag_rules.specs.Promotion.{abort_of, promotion_records, blocks_of}
+use Rattle.ag_ends.specs.Starts.{starts_after}
+use Rattle.ag_ends.proofs.Starts.{starts_whole}
 use Rattle.ag_built.specs.Whole.{is_commit_of, IsWholeRecord, IsWhole}
 use Rattle.ag_logstore.specs.Blocks.{AreBlocks}
-use Rattle.ag_logstore.specs.LogKept.{RisesTo, starts_after}
+use Rattle.ag_logstore.specs.LogKept.{RisesTo}
 use Rattle.ag_node.specs.Room.{is_trim}
 use Rattle.ag_logstore.proofs.LogEnds.{rises_le}
-use Rattle.ag_logstore.proofs.LogStarts.{starts_whole}
 use Rattle.ag_node.proofs.RoomLog.{eqb_self, puts_of, new_of, all_map, all_append}
 
 -- the transactions that have their Commit among the first records have it among the second
