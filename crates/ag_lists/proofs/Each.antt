@@ -34,6 +34,9 @@ pub all_right : {X : Type 0} (P : X → Type 0) (xs ys : List X) → AllByRecurs
 all_right P [] ys p = p
 all_right P (x ∷ xs) ys p = all_right P xs ys p.1
 
+pub all_split : {X : Type 0} (P : X → Type 0) (xs ys : List X) → AllByRecursion P (xs ++ ys) → AllByRecursion P xs × AllByRecursion P ys
+all_split P xs ys p = (all_left P xs ys p, all_right P xs ys p)
+
 -- one element more
 pub all_push : {X : Type 0} (P : X → Type 0) (xs : List X) (x : X) → AllByRecursion P xs → P x → AllByRecursion P (xs ++ x ∷ [])
 all_push P xs x p here = all_append P xs (x ∷ []) p (here, tt)
