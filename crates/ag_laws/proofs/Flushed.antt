@@ -1,5 +1,5 @@
 -- The batches of a flush: pages, and then the master.
-use Rattle.std.proofs.Common.{◌≡◌, ℕ, zero, suc, List, [], ◌∷◌, ◌++◌, take, map, refl}
+use Rattle.std.proofs.Common.{ℕ, zero, suc, List, [], ◌∷◌, ◌++◌, take, map, refl}
 use Rattle.std.specs.List.{AllByRecursion}
 use Rattle.ag_rules.specs.Replica.{Kept, Master}
 use Rattle.ag_rules.specs.Plan.{Batch, Master_write, written, batch_written, all_written}
