@@ -69,7 +69,7 @@ flush_goes s logs told pages n h r at =
     let then_ : Replica = record r { pages = each_page (cleaned ps) 16 r.pages } in
     let c : SameCore r.kept r.kept = record { log = refl; master = refl } in
     let new : (x : Kept) → SameCore r.kept x → (written x (Master_write m (end r))).log ≡ r.kept.log = λ x d. mastered r.kept x m (end r) d refl at.kept.ends in
-    let whole : (all_written r.kept (flush_writes r ps)).log ≡ r.kept.log = 
+    let whole : (all_written r.kept (flush_writes r ps)).log ≡ r.kept.log =
     flush_all (λ x. x.log ≡ r.kept.log) r.kept r.kept m (end r) (by_eights ps) c new in
     checked_goes logs told pages r (checks_of_flush h r) _
     (λ _. record {

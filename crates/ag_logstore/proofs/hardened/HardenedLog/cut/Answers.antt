@@ -9,7 +9,7 @@ use Rattle.ag_logstore.proofs.Cuts.{kept_less, IsCut}
 use Rattle.ag_logstore.proofs.hardened.HardenedLog.cut.Goals as goal
 
 pub cut_starts-requires : goal.cut_starts-requires
-cut_starts-requires c = subst (IsNonDecreasingBy (λ (s : TermStart). s.lsn)) (sym c.self.invariant.starts) 
+cut_starts-requires c = subst (IsNonDecreasingBy (λ (s : TermStart). s.lsn)) (sym c.self.invariant.starts)
     (starts_in_order 0 _ (term_starts c.self.inside.records) (rise 0 c.self.inside.records))
 
 pub invariant_of-self : goal.invariant_of-self
