@@ -2,6 +2,7 @@
 use Rattle.std.proofs.Common.{◌≡◌, ℕ, suc, ◌≤◌, List, [], ◌∷◌, ◌∙◌, length, map, Bool, true, false, refl, sym, ap, subst, arith}
 use Rattle.std.specs.Prelude.{◌&&◌, nat_lt, if◌then◌else◌}
 use Rattle.std.specs.List.{filter}
+use Rattle.std.proofs.lemmas.Bool.{and_left}
 use Rattle.ag_rules.specs.Replica.{Replica, Peer, end, peer_in}
 use Rattle.ag_rules.specs.Group.{has}
 use Rattle.ag_rules.specs.Plan.{Here}
@@ -11,17 +12,13 @@ use Rattle.ag_capture.specs.Captured.{Captured, Knows, peer_of}
 use Rattle.ag_capture.specs.Late.{late_among, waited_for}
 use Rattle.ag_capture.proofs.Members.{filter-agrees, filter-shorter}
 
-and_false : (x y : Bool) → x ≡ false → (x && y) ≡ false
-and_false true y e = absurd (cc)
-and_false false y e = refl
-
 -- the late members are the same
 same_members : (c : Captured) (r : Replica) (lsn replicas : ℕ) → Knows c r → replicas ≤ 16 → ((m : ℕ) → replicas ≤ m → has r.leading.synced m ≡ false) → late_members replicas r.leading.peers lsn r.leading.synced ≡ late_among c lsn r.leading.synced
 unfolding late_among
 same_members c r lsn replicas knows few none =
     filter-agrees (is_late r.leading.peers lsn r.leading.synced) (is_late c.peers lsn r.leading.synced) 0 replicas
     (λ m. ap (λ p. has r.leading.synced m && nat_lt p.hardened lsn) (sym (knows m)))
-    ∙ sym (filter-shorter (is_late c.peers lsn r.leading.synced) 0 16 replicas few (λ m high. and_false (has r.leading.synced m) (nat_lt (peer_of c m).hardened lsn) (none m (omega arith))))
+    ∙ sym (filter-shorter (is_late c.peers lsn r.leading.synced) 0 16 replicas few (λ m high. and_left (has r.leading.synced m) (nat_lt (peer_of c m).hardened lsn) (none m (omega arith))))
 
 pub ack_agrees : (c : Captured) (h : Here) (r : Replica) (lsn : ℕ) → Knows c r → c.primary ≡ h.number → length h.modes ≤ 16 → ((m : ℕ) → length h.modes ≤ m → has r.leading.synced m ≡ false) → late h r lsn ≡ waited_for c lsn (end r) r.leading.synced
 ack_agrees c h r lsn knows number few none =

@@ -1,4 +1,3 @@
-pub mod BlockEnds
 pub mod Members
 pub mod Least
 pub mod Events

@@ -13,7 +13,8 @@ ghost use Rattle.ag_capture.specs.Late.{waited_for};
 /// them do.
 pub fn events_agree()
     ensures change { (c : Captured) (r : Replica) (m : ℕ) (new : Peer) → Knows c r → m < length c.peers → m < length r.leading.peers → Knows (with_peer_of c m new) (with_peer r m new) }
-    ensures ack { (c : Captured) (h : Here) (r : Replica) (lsn : ℕ) → Knows c r → c.primary ≡ h.number → length h.modes ≤ 16 → ((m : ℕ) → length h.modes ≤ m → has r.leading.synced m ≡ false) → late h r lsn ≡ waited_for c lsn (end r) r.leading.synced }
+    ensures ack { (c : Captured) (h : Here) (r : Replica) (lsn : ℕ) → Knows c r → c.primary ≡ h.number → length h.modes ≤ 16
+        → ((m : ℕ) → length h.modes ≤ m → has r.leading.synced m ≡ false) → late h r lsn ≡ waited_for c lsn (end r) r.leading.synced }
     ensures limit { (c : Captured) (r : Replica) (own : ℕ) (snapshots : List ℕ) → Knows c r → limit_of own snapshots r.leading.peers ≡ limit_of own snapshots c.peers }
     ensures least { (own snapshot : ℕ) (others : List ℕ) (peers : List Peer) → limit_of own (snapshot ∷ others) peers ≡ limit_of own (least (snapshot ∷ others) ∷ []) peers }
 {}

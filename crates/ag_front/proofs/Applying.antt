@@ -117,18 +117,6 @@ module _ {T : Type 0} (standing : T → Standing) where
       let same : ◌≡◌ {A = ℕ × Log} (m.0.pages, h.has.seen) (m2.0.pages, m2.0.seen) = sym ((λ i. (((p i).0).pages, ((p i).0).seen)) ∙ (λ i. (((h.has.is i).0).pages, ((h.has.is i).0).seen))) in
       (omega arith, subst (λ (x : ℕ × Log). StandsAt standing x.0 x.1 k (standing t').applied t') same on)
 
-  -- a stripe that was only read
-  pub only_read : (k n : ℕ) (m m1 m2 : M) (t t' : T) → (h : Took standing k n m m1) → h.has.stripe ≡ t → m2 ≡ (m1.0, (k, Away) ∷ rest m1.1)
-      → IsSameStripe (standing t) (standing t') → (standing t').applied ≡ (standing t).applied → ((log : Log) → StandsFor (standing t) log → StandsFor (standing t') log)
-      → (m2.0.at ≤ (standing t').applied) × StandsAt standing m2.0.pages m2.0.seen k (standing t').applied t'
-  only_read k n m m1 m2 t t' h is p same same_applied shown = let st = subst (λ (u : T). StandsAt standing m.0.pages h.has.seen k (standing u).applied u) is h.has.stands in
-      may_give k n m m1 m2 t t' h is p record {
-        numbered = same.number ∙ st.numbered;
-        paged = same.pages ∙ st.paged;
-        at = refl;
-        stands = shown h.has.seen st.stands;
-      } (omega arith)
-
   -- the stripe of a key's page has that page
   page_there : (pages key : ℕ) → 16 ≤ pages → (16 ≤ page_of pages key) × (page_of pages key < 16 + pages)
   page_there pages key wide = let below : key % pages < pages = mod-lt key (omega arith) in (omega arith, omega arith)

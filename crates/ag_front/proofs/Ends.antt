@@ -1,12 +1,9 @@
 -- The ends of a log by their places.
-use Rattle.std.proofs.Common.{◌≡◌, ℕ, zero, suc, ◌+◌, ◌<◌, ◌≤◌, inl, inr, true, eqb, List, [], ◌∷◌, ◌++◌, length, get_or, take, drop, refl, sym, ap, subst, ◌∙◌, arith}
-use Rattle.std.specs.Prelude.{Option, Some, None, Ok, Err, nat_le}
+use Rattle.std.proofs.Common.{◌≡◌, ℕ, zero, suc, ◌+◌, ◌<◌, ◌≤◌, List, [], ◌∷◌, ◌++◌, length, get_or, take, drop, refl, sym, ap, subst, ◌∙◌, arith}
+use Rattle.std.specs.Prelude.{Option, Some, None, nat_le}
 use Rattle.std.specs.List.{filter, last_or}
-use Rattle.std.specs.List.Sorted.{IsBinarySearchResult}
-use Rattle.std.specs.Ordering.{nat_cmp}
-use Rattle.std.proofs.lemmas.Bool.{or_cases, or_left, or_right, eqb-true, eq-eqb, le-leb}
+use Rattle.std.proofs.lemmas.Bool.{le-leb}
 use Rattle.std.proofs.lemmas.List.{length-take, length-append, take-take, take-append-drop}
-use Rattle.std.proofs.lemmas.List.Sorted.{searched}
 use Rattle.ag_model.specs.declared.message.Block.{Block}
 use Rattle.ag_model.specs.declared.record.Log.{Log}
 use Rattle.ag_model.specs.declared.record.Record.{Record}
@@ -15,40 +12,10 @@ use Rattle.ag_model.specs.Prefixes.{end_of, IsBlockEnd, IsPrefix, HasBlock}
 use Rattle.ag_model.specs.Proper.{IsProper, RisesFrom}
 use Rattle.ag_model.specs.Rows.{contains}
 use Rattle.ag_model.specs.Starts.{last_term}
+use Rattle.ag_ends.proofs.Places.{above, strictly, contains-at}
 use Rattle.ag_front.specs.Fetches.{IsBlockAfter}
 use Rattle.ag_model.proofs.Prefixes.{prefix_at, cut_length, end_low}
 use Rattle.ag_model.proofs.Rising.{filter-none}
-
--- each end is above the LSN that the ends rise from
-pub above : (low i : ℕ) (es : List ℕ) → RisesFrom low es → i < length es → low < get_or es i 0
-above low i [] p h = absurd (omega (arith, h))
-above low zero (e ∷ es) p h = p.0
-above low (suc i) (e ∷ es) p h = omega (arith, p.0, above e i es p.1 (omega (arith, h)))
-
--- ends that rise are in order
-in_order : (low i j : ℕ) (es : List ℕ) → RisesFrom low es → i ≤ j → j < length es → get_or es i 0 ≤ get_or es j 0
-in_order low i j [] p o h = absurd (omega (arith, h))
-in_order low zero zero (e ∷ es) p o h = omega arith
-in_order low zero (suc j) (e ∷ es) p o h = omega (arith, above e j es p.1 (omega (arith, h)))
-in_order low (suc i) zero (e ∷ es) p o h = absurd (omega (arith, o))
-in_order low (suc i) (suc j) (e ∷ es) p o h = in_order e i j es p.1 (omega (arith, o)) (omega (arith, h))
-
--- a search finds an end that is there
-pub found : (es : List ℕ) (lsn place : ℕ) → RisesFrom 0 es → IsBinarySearchResult (λ y. nat_cmp y lsn) es (Ok place) → (place < length es) × (get_or es place 0 ≡ lsn)
-found es lsn place p s = searched es lsn (Ok place) s (λ i j. in_order 0 i j es p)
-
-contains-place : (n : ℕ) (es : List ℕ) → contains n es ≡ true → (i : ℕ) × (i < length es) × (get_or es i 0 ≡ n)
-contains-place n [] c = absurd cc
-contains-place n (e ∷ es) c = elim (or_cases (eqb n e) (contains n es) c) [
-  | inl t ↦ (0, omega arith, sym (eqb-true n e t))
-  | inr r ↦ (let ih = contains-place n es r in (suc ih.0, omega (arith, ih.1), ih.2))
-]
-
-pub not_missed : (es : List ℕ) (lsn place : ℕ) → RisesFrom 0 es → contains lsn es ≡ true → IsBinarySearchResult (λ y. nat_cmp y lsn) es (Err place) → ⊥
-not_missed es lsn place p c s =
-    let f = searched es lsn (Err place) s (λ i j. in_order 0 i j es p) in
-    let at = contains-place lsn es c in
-    grind (arith, f.1 at.0, f.2 at.0, at.1, at.2)
 
 -- the ends up to the next one
 next_ends : (low i : ℕ) (es : List ℕ) → RisesFrom low es → suc i < length es
@@ -69,11 +36,6 @@ next_ends low (suc i) (e ∷ es) p h =
     let ih = next_ends e i es p.1 lt in
     rw (a, b) (ap (λ (xs : List ℕ). e ∷ xs) ih)
 
-contains-at : (i : ℕ) (es : List ℕ) → i < length es → contains (get_or es i 0) es ≡ true
-contains-at i [] h = absurd (omega (arith, h))
-contains-at zero (e ∷ es) h = or_left (eqb e e) (contains e es) (eq-eqb e e refl)
-contains-at (suc i) (e ∷ es) h = or_right (eqb (get_or es i 0) e) (contains (get_or es i 0) es) (contains-at i es (omega (arith, h)))
-
 -- the last end, by its place, is the log's
 last-at : (low i : ℕ) (o : Option ℕ) (es : List ℕ) (n : ℕ) → i < length es → length es ≤ i + 1 → last_or o es ≡ Some n → get_or es i 0 ≡ n
 last-at low i o [] n h k l = absurd (omega (arith, h))
@@ -84,16 +46,11 @@ last-at low (suc i) o (e ∷ es) n h k l = last-at e i (Some e) es n (omega (ari
 pub at_the_end : (pages : ℕ) (log : Log) (i lsn : ℕ) → IsProper pages log → i < length log.ends → length log.ends ≤ i + 1 → get_or log.ends i 0 ≡ lsn → end_of log ≡ lsn
 at_the_end pages log i lsn p h k at = sym (last-at 0 i None log.ends (end_of log) h k p.last) ∙ at
 
-next_above : (low i : ℕ) (es : List ℕ) → RisesFrom low es → suc i < length es → get_or es i 0 < get_or es (suc i) 0
-next_above low i [] p h = absurd (omega (arith, h))
-next_above low zero (e ∷ es) p h = above e 0 es p.1 (omega (arith, h))
-next_above low (suc i) (e ∷ es) p h = next_above e i es p.1 (omega (arith, h))
-
 -- where the block after an end ends
 pub next_end_there : (pages : ℕ) (log : Log) (i j lsn last : ℕ) → IsProper pages log → j ≡ suc i → j < length log.ends → get_or log.ends i 0 ≡ lsn → last ≡ get_or log.ends j 0 → (lsn < last) × (last ≤ end_of log)
 next_end_there pages log i j lsn last p next h at is =
     let e : get_or log.ends j 0 ≡ get_or log.ends (suc i) 0 = ap (λ (k : ℕ). get_or log.ends k 0) next in
-    (omega (arith, next_above 0 i log.ends p.ends (omega arith)), omega (arith, end_low pages log (get_or log.ends j 0) p (contains-at j log.ends h)))
+    (omega (arith, strictly 0 i (suc i) log.ends p.ends (omega arith) (omega arith)), omega (arith, end_low pages log (get_or log.ends j 0) p (contains-at j log.ends h)))
 
 -- the block between an end and the next one stands in the log
 pub block_there : (pages : ℕ) (log : Log) (i j lsn last : ℕ) (block : Block) → IsProper pages log → j ≡ suc i → j < length log.ends → get_or log.ends i 0 ≡ lsn → last ≡ get_or log.ends j 0

@@ -1,5 +1,5 @@
 -- The two tries of a grab.
-use Rattle.std.proofs.Common.{◌≡◌, ◌≢◌, ℕ, zero, suc, ◌+◌, ◌-◌, ◌%◌, ◌^◌, ◌<◌, ◌≤◌, ◌⊎◌, ⊎_elim, inl, inr, List, [], ◌∷◌, length, get_or, set, sym, refl, ap, ◌∙◌, subst, arith, length-set, get_or-set_same}
+use Rattle.std.proofs.Common.{◌≡◌, ◌≢◌, ℕ, zero, suc, ◌+◌, ◌%◌, ◌<◌, ◌≤◌, inl, inr, List, [], ◌∷◌, length, get_or, set, sym, refl, ap, ◌∙◌, subst, arith, length-set, get_or-set_same}
 use mathlib.Core.Logic.{dite}
 use native.Mathlib.Decide.{ℕ_discrete}
 use Rattle.atomic_table.specs.Table.{Me}
@@ -17,9 +17,6 @@ set_twice (x ∷ xs) (suc k) a b = ap (λ ys. x ∷ ys) (set_twice xs k a b)
 module _ {T : Type 0} (standing : T → Standing) where
   abbrev M : Type 0
   M = Me (Slot T) View
-
-  pub took_first : (k n : ℕ) (m m' : M) → n % 2 ≡ 0 → HasStripe standing k m (set m.0.turn k (n + 1)) (counted_up m.0.tries k) m' → Took standing k (n + 1) m m'
-  took_first k n m m' even h = record { tries = counted_up m.0.tries k; has = h; odd = omega arith }
 
   pub took_second : (k n : ℕ) (m m1 m' : M) → n % 2 ≡ 0 → m1 ≡ (tried m.0 k n, m.1) → HasStripe standing k m1 (set m1.0.turn k (n + 1)) (counted_up m1.0.tries k) m' → Took standing k (n + 1) m m'
   took_second k n m m1 m' even is = subst (λ (x : M). HasStripe standing k x (set x.0.turn k (n + 1)) (counted_up x.0.tries k) m' → Took standing k (n + 1) m m') (sym is)
@@ -54,13 +51,6 @@ module _ {T : Type 0} where
   only_these : (k n c : ℕ) (m m' : Me (Slot T) View) → m' ≡ (record m.0 { turn = set m.0.turn k n; tries = set m.0.tries k c }, m.1) → n ≡ get_or m'.0.turn k 0 → c ≡ get_or m'.0.tries k 0
       → m'.0 ≡ record m.0 { turn = set m.0.turn k (get_or m'.0.turn k 0); tries = set m.0.tries k (get_or m'.0.tries k 0) }
   only_these k n c m m' is a b = (λ i. (is i).0) ∙ (λ i. record m.0 { turn = set m.0.turn k (a i); tries = set m.0.tries k (b i) })
-
-  pub busy_once : (k n : ℕ) (m m' : Me (Slot T) View) → k < 17 → Missed k m n m' → (n % 2 ≡ 1) ⊎ (2 ^ 64 - 3 ≤ n) → IsBusy k m m'
-  busy_once k n m m' small t why = let a = missed_turn k n m m' small t in let b = missed_tries k n m m' small t in let up = t.1 in record {
-    in_hand = λ i. (t.0 i).1;
-    only = only_these k n (get_or m.0.tries k 0 + 1) m m' t.0 a b;
-    why = ⊎_elim (λ (odd : n % 2 ≡ 1). inl (ap (λ (x : ℕ). x % 2) (sym a) ∙ odd, omega arith, omega arith)) (λ (full : 2 ^ 64 - 3 ≤ n). inr (inr (omega arith))) why;
-  }
 
   pub busy_twice : (k start n o : ℕ) (m m1 m' : Me (Slot T) View) → k < 17 → get_or m.0.turn k 0 ≤ start → start % 2 ≡ 0 → Missed k m n m1 → n ≢ start → start ≤ n + 1 → n % 2 ≡ 0 → Missed k m1 o m' → o ≢ n → IsBusy k m m'
   busy_twice k start n o m m1 m' small low seven t other near neven u again = let a = missed_turn k n m m1 small t in let b = missed_tries k n m m1 small t in let up = t.1 in

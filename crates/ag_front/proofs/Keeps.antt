@@ -1,6 +1,8 @@
 -- How a step keeps the rule.
 use Rattle.std.proofs.Common.{◌≡◌, ◌≢◌, ℕ, zero, suc, ◌+◌, ◌%◌, ◌<◌, ◌≤◌, ⊎_elim, true, List, [], ◌∷◌, length, get_or, set, sym, refl, ap, ◌∙◌, subst, arith, le_refl, length-set, get_or-set_other, get_or-set_same, max}
 use Rattle.std.proofs.lemmas.List.Sums.{sum_by-set, sum_by-append}
+use Rattle.std.proofs.lemmas.Bool.{or_left}
+use Rattle.std.proofs.lemmas.Bool.{or_right, or_cases}
 use mathlib.Core.Logic.{dite}
 use mathlib.Core.Option.{Option, none, some, some-injective, some-ne-none}
 use native.Mathlib.Decide.{ℕ_discrete}
@@ -17,7 +19,7 @@ use Rattle.ag_model.proofs.ProperPrefixes.{prefix_proper}
 use Rattle.ag_front.specs.declared.view.View.{View}
 use Rattle.ag_front.specs.declared.rule.Slot.{Slot}
 use Rattle.ag_front.specs.Rule.{published, turn_of, IsSound, IsLaid, Knows, FollowsRule}
-use Rattle.ag_front.proofs.Merging.{max_case, length-maxes, maxes_case, or_cases, or_first, or_second, moved, moved_to, moved_not, longer_begins, longer_first, longer_second, longer_log, longer_log'}
+use Rattle.ag_front.proofs.Merging.{max_case, length-maxes, maxes_case, moved, moved_to, moved_not, longer_begins, longer_first, longer_second, longer_log, longer_log'}
 use Rattle.ag_front.specs.Steps.{after_load, after_raise, loaded, raised, kept_part, given_part, merged, spent_view}
 
 -- a list read at an index that is there
@@ -348,10 +350,10 @@ module _ {T : Type 0} (standing : T → Standing) (count : ℕ) where
         out = λ k l odd. let o = r.out k l odd in let f = free_other k l odd in (o.0, set_else vs other (r.holder k) spent_view f.1 ∙ (set_else s.views id (r.holder k) both f.0 ∙ o.1), o.2);
         written = let was = r.written in dite (ℕ_discrete r.writer other)
             (λ is. let same : w ≡ was.0 = some-injective w was.0 (sym at_other ∙ (ap (λ (x : ℕ). get_elem? s.views x) (sym is) ∙ was.1)) in
-            (both, ap (λ (x : ℕ). get_elem? (set vs other spent_view) x) (moved_to r.writer other id is) ∙ (set_else vs other id spent_view (λ q. apart (sym q)) ∙ set_here s.views id both inside), or_second v.author w.author (ap (λ (x : View). x.author) same ∙ was.2), omega arith))
+            (both, ap (λ (x : ℕ). get_elem? (set vs other spent_view) x) (moved_to r.writer other id is) ∙ (set_else vs other id spent_view (λ q. apart (sym q)) ∙ set_here s.views id both inside), or_right v.author w.author (ap (λ (x : View). x.author) same ∙ was.2), omega arith))
             (λ isnt. dite (ℕ_discrete r.writer id)
             (λ is. let same : v ≡ was.0 = some-injective v was.0 (sym here ∙ (ap (λ (x : ℕ). get_elem? s.views x) (sym is) ∙ was.1)) in
-            (both, ap (λ (x : ℕ). get_elem? (set vs other spent_view) x) (moved_not r.writer other id isnt ∙ is) ∙ (set_else vs other id spent_view (λ q. apart (sym q)) ∙ set_here s.views id both inside), or_first v.author w.author (ap (λ (x : View). x.author) same ∙ was.2), omega arith))
+            (both, ap (λ (x : ℕ). get_elem? (set vs other spent_view) x) (moved_not r.writer other id isnt ∙ is) ∙ (set_else vs other id spent_view (λ q. apart (sym q)) ∙ set_here s.views id both inside), or_left v.author w.author (ap (λ (x : View). x.author) same ∙ was.2), omega arith))
             (λ not_id. (was.0, ap (λ (x : ℕ). get_elem? (set vs other spent_view) x) (moved_not r.writer other id isnt) ∙ (set_else vs other r.writer spent_view isnt ∙ (set_else s.views id r.writer both not_id ∙ was.1)), was.2, was.3)));
         shared = let a = sum_by-set (λ (x : View). x.parts) s.views id both v inside in let b = sum_by-set (λ (x : View). x.parts) vs other spent_view w inside' in
             let c : (get_or s.views id v).parts ≡ v.parts = ap (λ (x : View). x.parts) ((there s.views id v here).1 v) in

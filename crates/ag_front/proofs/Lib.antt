@@ -2,11 +2,9 @@ mod Merging
 mod Keeps
 mod Opening
 mod Loads
-mod Starts
 mod Taking
 mod Giving
 mod Grabbing
-mod Copies
 mod Ends
 mod Logging
 mod Applying

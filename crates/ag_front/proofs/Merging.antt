@@ -1,5 +1,5 @@
 -- Of two views that are merged.
-use Rattle.std.proofs.Common.{◌≡◌, ◌≢◌, ℕ, zero, suc, ◌+◌, ◌<◌, ◌≤◌, ◌⊎◌, inl, inr, Bool, true, false, cond, ltb, ◌||◌, List, [], ◌∷◌, length, get_or, set, sym, refl, ap, ◌∙◌, subst, arith, max, le_refl, length-set, get_or-set_other, get_or-set_same}
+use Rattle.std.proofs.Common.{◌≡◌, ◌≢◌, ℕ, zero, suc, ◌+◌, ◌<◌, ◌≤◌, Bool, true, false, cond, ltb, List, [], ◌∷◌, length, get_or, set, sym, refl, ap, ◌∙◌, subst, arith, max, le_refl, length-set, get_or-set_other, get_or-set_same}
 use Rattle.std.proofs.lemmas.Grind.{same_number_lists}
 use Rattle.std.proofs.lemmas.Bool.{ltb-true, lt-ltb}
 use mathlib.Core.Logic.{dite}
@@ -24,19 +24,8 @@ maxes_case P (x ∷ xs) [] k l m p q = absurd (omega arith)
 maxes_case P (x ∷ xs) (y ∷ ys) zero l m p q = max_case P x y p q
 maxes_case P (x ∷ xs) (y ∷ ys) (suc k) l m p q = maxes_case P xs ys k (omega arith) (omega arith) p q
 
-pub or_cases : (a b : Bool) → (a || b) ≡ true → (a ≡ true) ⊎ (b ≡ true)
-or_cases true b e = inl refl
-or_cases false b e = inr e
-
-pub or_first : (a b : Bool) → a ≡ true → (a || b) ≡ true
-or_first true b e = refl
-or_first false b e = absurd (cc e)
-
-pub or_second : (a b : Bool) → b ≡ true → (a || b) ≡ true
-or_second true b e = refl
-or_second false b e = e
-
-abbrev pick : {P : Type 0} → Dec P → ℕ → ℕ → ℕ
+-- one of two numbers, by a decision
+abbrev pub pick : {P : Type 0} → Dec P → ℕ → ℕ → ℕ
 pick (yes _) a b = a
 pick (no _) a b = b
 

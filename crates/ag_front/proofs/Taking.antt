@@ -1,7 +1,7 @@
 -- How the taking of a slot keeps the rule.
 use Rattle.std.proofs.Common.{◌≡◌, ◌≢◌, ℕ, ◌+◌, ◌-◌, ◌%◌, ◌^◌, ◌<◌, ◌≤◌, eqb, List, ◌∷◌, length, get_or, set, sym, refl, ap, ◌∙◌, subst, arith, length-set, get_or-set_other, get_or-set_same, eq-eqb, ne_eqb}
 use mathlib.Core.Logic.{dite}
-use mathlib.Core.Option.{Option, none, some, some-injective}
+use mathlib.Core.Option.{none, some, some-injective}
 use native.Mathlib.Decide.{ℕ_discrete}
 use lib.ListN.{get_elem?}
 use prog.Atomic.{either}
@@ -15,17 +15,13 @@ use Rattle.ag_model.proofs.Prefixes.{prefix_trans, prefix_length, prefix_at, cut
 use Rattle.ag_front.specs.declared.view.View.{View}
 use Rattle.ag_front.specs.declared.rule.Slot.{Slot}
 use Rattle.ag_front.specs.declared.rule.Slot.TheVariants.{Stripe}
-use Rattle.ag_front.specs.Rule.{published, turn_of, IsLaid, Knows, FollowsRule}
+use Rattle.ag_front.specs.Rule.{published, turn_of, Knows, FollowsRule}
 use Rattle.ag_front.specs.Steps.{longer}
 use Rattle.ag_front.specs.Slots.{counted_up, tried, with_stripe, Missed, HasStripe, stripe_tried}
 use Rattle.ag_front.proofs.Keeps.{there, set_case, rebuild, reseated, as_it_was, seen_proper}
-use Rattle.ag_front.proofs.Merging.{longer_begins, longer_first, longer_second, longer_log}
+use Rattle.ag_front.proofs.Merging.{longer_begins, longer_first, longer_second, longer_log, pick}
 
 -- a function with another value at k
-abbrev pick : {P : Type 0} → Dec P → ℕ → ℕ → ℕ
-pick (yes _) a b = a
-pick (no _) a b = b
-
 pub put : (ℕ → ℕ) → ℕ → ℕ → ℕ → ℕ
 put f k c j = pick (ℕ_discrete j k) c (f j)
 
@@ -54,9 +50,6 @@ module _ {T : Type 0} (standing : T → Standing) (count : ℕ) where
 
   abbrev pub Rule : St → Type 0
   Rule = FollowsRule standing count
-
-  abbrev pub Laid : List ℕ → List (Option (Slot T)) → Log → (ℕ → ℕ) → Type 0
-  Laid = IsLaid standing count
 
   abbrev pub K : List ℕ → Log → (ℕ → ℕ) → (ℕ → ℕ) → ℕ → ℕ → View → Type 0
   K = Knows standing count

@@ -1,4 +1,3 @@
-pub mod Starts
 pub mod Rule
 pub mod Steps
 pub mod Passes

@@ -71,7 +71,10 @@ module _ {T : Type 0} (standing : T → Standing) where
 
   -- the stripe that the pass holds goes home, further on
   abbrev pub stripe_given : Step (Slot T) → Hold T → ℕ → Hold T → Type 0
-  stripe_given st m n m' = (k : ℕ) (t : T) → m.1 ≡ (k, Stripe t) ∷ [] → (n < 2 ^ 64 - 1) × (m' ≡ (record m.0 { done = slice_set m.0.done k (standing t).applied; turn = slice_set m.0.turn k (n + 1); hand = 0 }, [])) × (slice_index m.0.turn k ≤ n + 1) × IsSound m'.0
+  stripe_given st m n m' =
+      (k : ℕ) (t : T) → m.1 ≡ (k, Stripe t) ∷ []
+      → (n < 2 ^ 64 - 1) × (m' ≡ (record m.0 { done = slice_set m.0.done k (standing t).applied; turn = slice_set m.0.turn k (n + 1); hand = 0 }, []))
+      × (slice_index m.0.turn k ≤ n + 1) × IsSound m'.0
 
 module _ {T : Type 0} where
   -- the pass has the log, and has seen all of it

@@ -5,8 +5,8 @@ ghost use Rattle.ag_model.specs.Starts.{start_by};
 ghost use Rattle.ag_model.specs.Prefixes.{IsBlockEnd};
 ghost use Rattle.ag_model.specs.Proper.{IsProper, RisesFrom};
 ghost use Rattle.ag_model.specs.Rows.{contains};
+ghost use Rattle.ag_ends.specs.Starts.{starts_after, term_by};
 ghost use Rattle.ag_front.specs.Fetches.{IsDispatchFault, IsFetched};
-ghost use Rattle.ag_front.specs.Starts.{starts_after, term_by};
 
 use crate::fault::{DispatchFault, Fetched};
 use ag_model::config::TermStart;

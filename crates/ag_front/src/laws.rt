@@ -41,7 +41,8 @@ pub fn steps_keep_the_rule<T: Stands>()
     ensures give_log { (count slots id : ℕ) (v : View) (log : Log) → 0 < v.parts → v.hand ≡ 17 → MayGive v log
         → Allows (FollowsRule T.standing count) slots id (v, (16, History log) ∷ []) 32 (λ n. (n + 1) % 2 ^ 64) (log_given (step slots 32 1 0 none) (v, (16, History log) ∷ [])) }
     // Give a stripe back.
-    ensures give_stripe { (count slots id : ℕ) (v : View) (k : ℕ) (t : T) → k < 16 → 0 < v.parts → v.hand ≡ k + 1 → v.at ≤ (T.standing t).applied → StandsAt T.standing v.pages v.seen k (T.standing t).applied t
+    ensures give_stripe { (count slots id : ℕ) (v : View) (k : ℕ) (t : T) → k < 16 → 0 < v.parts → v.hand ≡ k + 1
+        → v.at ≤ (T.standing t).applied → StandsAt T.standing v.pages v.seen k (T.standing t).applied t
         → Allows (FollowsRule T.standing count) slots id (v, (k, Stripe t) ∷ []) (16 + k) (λ n. (n + 1) % 2 ^ 64) (stripe_given T.standing (step slots (16 + k) 1 0 none) (v, (k, Stripe t) ∷ [])) }
     // Take the log.
     ensures take_log { (count slots id : ℕ) (me : Hold T) (old new : ℕ) → 0 < me.0.parts → me.0.hand ≡ 0 → old % 2 ≡ 0 → new ≡ old + 1 → new < 2 ^ 64 - 1
@@ -52,5 +53,6 @@ pub fn steps_keep_the_rule<T: Stands>()
     // Make two passes of one.
     ensures split { (count id : ℕ) (v : View) (n : ℕ) → 0 < n → n < v.parts → v.hand ≡ 0 → Splits {S = Slot T} (FollowsRule T.standing count) id v (kept_part n v) (given_part n v) }
     // Make one pass of two.
-    ensures join { (count id : ℕ) (v : View) (other : ℕ) (w : View) → 0 < v.parts → 0 < w.parts → v.hand ≡ 0 → w.hand ≡ 0 → Joins {S = Slot T} (FollowsRule T.standing count) id v other w (merged v w) spent_view }
+    ensures join { (count id : ℕ) (v : View) (other : ℕ) (w : View) → 0 < v.parts → 0 < w.parts → v.hand ≡ 0 → w.hand ≡ 0
+        → Joins {S = Slot T} (FollowsRule T.standing count) id v other w (merged v w) spent_view }
 {}

@@ -1,6 +1,6 @@
 -- A run that goes on by an event, and what is written of it.
-use Rattle.std.proofs.Common.{◌≡◌, ℕ, ◌+◌, ◌<◌, ◌≤◌, List, [], ◌∷◌, ◌++◌, length, take, get_or, Option, refl, sym, ap, subst, ◌∙◌, append_assoc, arith, map, zero, suc}
-use Rattle.std.specs.List.{flat_map, AllByRecursion}
+use Rattle.std.proofs.Common.{◌≡◌, ℕ, ◌+◌, ◌<◌, ◌≤◌, List, [], ◌∷◌, ◌++◌, length, take, get_or, Option, refl, sym, ap, subst, ◌∙◌, append_assoc, map}
+use Rattle.std.specs.List.{flat_map}
 use Rattle.std.specs.Io.KnownBytes.{Appends}
 use Rattle.std.proofs.lemmas.List.{append-nil, take_more, take_all}
 use Rattle.std.proofs.lemmas.List.Concat.{flat_map-cons}
@@ -16,22 +16,12 @@ use Rattle.ag_rules.specs.Next.{done}
 use Rattle.ag_rules.specs.Run.{moments_from, answers_of}
 use Rattle.ag_transcript.specs.Transcript.{header_text, line, transcript}
 use Rattle.ag_transcript.specs.Answers.{answer_text}
-use Rattle.ag_law_logs.specs.Reached.{after_events}
+use Rattle.ag_law_logs.specs.Reached.{after_events, after_more}
 use Rattle.ag_group.specs.Ran.{HasRun, HasRunInPart}
-
--- what holds of each item holds of the one at an index
-pub every_at : {X : Type 0} (P : X → Type 0) (xs : List X) (i : ℕ) (d : X) → AllByRecursion P xs → i < length xs → P (get_or xs i d)
-every_at P [] i d h lt = absurd (omega (arith, lt))
-every_at P (x ∷ xs) zero d h lt = h.0
-every_at P (x ∷ xs) (suc i) d h lt = every_at P xs i d h.1 (omega (arith, lt))
 
 -- the answers to events, from a group on
 abbrev pub answers_from : Group → List Event → List Answer
 answers_from g es = map (λ m. m.answer) (moments_from g es)
-
-group_push : (g : Group) (es : List Event) (e : Event) → after_events g (es ++ e ∷ []) ≡ next (after_events g es) e
-group_push g [] e = refl
-group_push g (d ∷ es) e = group_push (next g d) es e
 
 answers_push : (g : Group) (es : List Event) (e : Event) → answers_from g (es ++ e ∷ []) ≡ answers_from g es ++ (done (after_events g es) e).answer ∷ []
 answers_push g [] e = refl
@@ -96,7 +86,7 @@ pub SoFar-event : (c : Config) (es : List Event) (i : ℕ) (g after_step : Group
 SoFar-event c es i g after_step before b now e a text h lt is ok steps keeps says wrote =
     let grown : take (i + 1) es ≡ take i es ++ e ∷ [] = take_more es i e lt ∙ ap (λ (x : Event). take i es ++ x ∷ []) (sym is) in
     record {
-      group_is = steps ∙ ap (λ (s : Group). next s e) h.group_is ∙ sym (group_push (opening c) (take i es) e) ∙ ap (λ (xs : List Event). after_events (opening c) xs) (sym grown);
+      group_is = steps ∙ ap (λ (s : Group). next s e) h.group_is ∙ sym (after_more (opening c) (take i es) e) ∙ ap (λ (xs : List Event). after_events (opening c) xs) (sym grown);
       config = keeps ∙ h.config;
       written = subst (λ (t : List ℕ). Appends before now t) (sym (one_more c es i g before b e a h lt is ok))
           (Appends-then before b now (transcript c (answers_of c (take i es))) (answer_line a) h.written (subst (λ (t : List ℕ). Appends b now t) says wrote));

@@ -1,5 +1,5 @@
 -- What an image says once its master or its log was written.
-use Rattle.std.proofs.Common.{◌≡◌, ◌⊎◌, ℕ, suc, ◌+◌, ◌^◌, ◌<◌, ◌≤◌, List, [], ◌∷◌, length, Some, Bool, true, false, leb, if◌then◌else◌, refl, sym, ap, ◌∙◌, subst, arith, inl, inr}
+use Rattle.std.proofs.Common.{◌≡◌, ◌⊎◌, ℕ, ◌+◌, ◌^◌, ◌<◌, ◌≤◌, List, [], ◌∷◌, length, Some, Bool, true, false, leb, if◌then◌else◌, refl, sym, ap, ◌∙◌, subst, arith}
 use Rattle.std.specs.Prelude.{Contains}
 use Rattle.std.specs.List.{filter}
 use Rattle.std.proofs.lemmas.Bool.{le-leb, ne_eqb}
@@ -15,7 +15,7 @@ use Rattle.ag_logstore.specs.Stored.{IsLogSector}
 use Rattle.ag_logstore.specs.Stores.{StoreView, IsCurrent}
 use Rattle.ag_logstore.proofs.Chains.{ends_of, current_alone}
 use Rattle.ag_logstore.proofs.LogEnds.{rises_le}
-use Rattle.ag_logstore.proofs.Raising.{raises}
+use Rattle.ag_logstore.proofs.Raising.{raises, last_end}
 use Rattle.ag_kept.specs.declared.reach.Reach.{Reach}
 use Rattle.ag_kept.specs.declared.reach.Reach.TheVariants.{End, Stop, Fault}
 use Rattle.ag_kept.specs.Kept.{Kept, SamePages, master_on, master_of, kept_on, started}
@@ -81,14 +81,6 @@ module _ (image after : Image) (log : Log) (h : IsHome image) (l : LeavesLog ima
 
   pub kept_stays : (loaded : Bool) → kept_on after loaded ≡ kept_so log (master_on image).incarnation (master_on image).cut (master_on image).redo (master_on image).pages (master_on image).replica loaded
   kept_stays loaded = kept_is after (master_on image) log same_master h.plain h.fits (ap or_zeros first_stays ∙ h.spelled) h.least l.has loaded
-
--- the last end is where the log ends
-last_end : (low high : ℕ) (es : List ℕ) → RisesTo low high es → (high ≡ low) ⊎ Contains es high
-last_end low high [] p = inl (sym p)
-last_end low high (e ∷ es) p = elim (last_end e high es p.1) [
-  | inl here ↦ inr (0, omega arith, sym here)
-  | inr later ↦ inr (suc later.0, omega (arith, later.1), later.2)
-]
 
 -- no end is above the last one
 all_within : (low high top : ℕ) (es : List ℕ) → RisesTo low high es → high ≤ top → filter (λ e. leb e top) es ≡ es

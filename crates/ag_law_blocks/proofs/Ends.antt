@@ -1,10 +1,13 @@
 -- Block ends that rise, where a log goes on by blocks or is cut.
 use Rattle.std.specs.Prelude.{if◌then◌else◌}
-use Rattle.std.proofs.Common.{◌≡◌, ℕ, zero, suc, ◌+◌, ◌<◌, ◌≤◌, List, [], ◌∷◌, ◌++◌, length, map, Bool, true, false, refl, sym, ap, ◌∙◌, subst, arith, length-append}
-use Rattle.std.specs.Prelude.{◌==◌, ◌||◌, ◌&&◌, nat_le, nat_lt}
-use Rattle.std.specs.List.{AllByRecursion, filter, fold, list_any, range_with_len}
-use Rattle.std.proofs.lemmas.Bool.{leb-false}
+use Rattle.std.proofs.Common.{◌≡◌, ℕ, ◌+◌, ◌<◌, ◌≤◌, List, [], ◌∷◌, ◌++◌, length, map, Bool, true, false, refl, sym, ap, ◌∙◌, subst, arith, length-append}
+use Rattle.std.specs.Prelude.{◌==◌, ◌||◌, ◌&&◌, nat_lt}
+use Rattle.std.specs.List.{AllByRecursion, fold, list_any}
+use Rattle.std.proofs.Math.Bool.{or-false}
+use Rattle.std.proofs.lemmas.Bool.{leb-false, or_right}
 use Rattle.std.proofs.lemmas.List.Folds.{list_any-append}
+use Rattle.std.proofs.lemmas.List.FromFn.{length-range_with_len}
+use Rattle.std.proofs.lemmas.List.Sums.{length-filter, count_by-le-length}
 use Rattle.ag_model.specs.declared.record.Record.{Record}
 use Rattle.ag_model.specs.declared.record.Record.TheVariants.{Term}
 use Rattle.ag_model.specs.declared.record.Log.{Log}
@@ -15,54 +18,24 @@ use Rattle.ag_model.specs.Starts.{last_term}
 use Rattle.ag_model.specs.Proper.{RisesFrom}
 use Rattle.ag_model.specs.Txns.{is_change_of, pages_of, open_in}
 use Rattle.ag_rules.specs.Promotion.{Packing, pack, packed, fits, unless_empty, blocks_of, promotion_records, abort_of}
+use Rattle.ag_lists.proofs.Tests.{by_bool, if_has}
+use Rattle.ag_lists.proofs.Each.{all_append}
 use Rattle.ag_laws.specs.Ends.{EndsIn}
-use Rattle.ag_laws.proofs.Plans.{by_bool, if_has}
-use Rattle.ag_laws.proofs.Lists.{all_append}
-use Rattle.ag_laws.proofs.Ends.{ends_push}
+use Rattle.ag_laws.proofs.Ends.{ends_push, ends_le}
 use Rattle.ag_law_proper.specs.Growth.{with_blocks}
 use Rattle.ag_law_proper.proofs.Numbers.{apart, eqb_same}
 
-pub or_false : (b : Bool) → (b || false) ≡ b
-or_false true = refl
-or_false false = refl
-
-pub or_true : (b : Bool) → (b || true) ≡ true
-or_true true = refl
-or_true false = refl
-
 pub contains_push : (n e : ℕ) (xs : List ℕ) → contains n (0 ∷ xs ++ e ∷ []) ≡ (contains n (0 ∷ xs) || (n == e))
-contains_push n e xs = list_any-append (λ y. n == y) (0 ∷ xs) (e ∷ []) ∙ ap (λ b. contains n (0 ∷ xs) || b) (or_false (n == e))
+contains_push n e xs = list_any-append (λ y. n == y) (0 ∷ xs) (e ∷ []) ∙ ap (λ b. contains n (0 ∷ xs) || b) (or-false (n == e))
 
 -- what is past the end isn't one of the ends
 pub none_past : (n low len : ℕ) (xs : List ℕ) → EndsIn low xs len → len < n → contains n xs ≡ false
 none_past n low len [] p h = refl
-none_past n low len (x ∷ xs) p h = ap (λ b. b || contains n xs) (apart n x (λ e. let q : x ≤ len = ends_low x len xs p.1 in omega arith)) ∙ none_past n x len xs p.1 h
-  where
-    ends_low : (start len : ℕ) (es : List ℕ) → EndsIn start es len → start ≤ len
-    ends_low start len [] p = p
-    ends_low start len (e ∷ es) p = let q : e ≤ len = ends_low e len es p.1 in omega (arith, p.0, q)
+none_past n low len (x ∷ xs) p h = ap (λ b. b || contains n xs) (apart n x (λ e. let q : x ≤ len = ends_le x len xs p.1 in omega arith)) ∙ none_past n x len xs p.1 h
 
 pub rises_push : (low len e : ℕ) (xs : List ℕ) → RisesFrom low xs → EndsIn low xs len → len < e → RisesFrom low (xs ++ e ∷ [])
 rises_push low len e [] r p h = (omega (arith, p, h), tt)
 rises_push low len e (x ∷ xs) r p h = (r.0, rises_push x len e xs r.1 p.1 h)
-
-rises_lower : (low high : ℕ) (xs : List ℕ) → low ≤ high → RisesFrom high xs → RisesFrom low xs
-rises_lower low high [] h r = tt
-rises_lower low high (x ∷ xs) h r = (omega (arith, h, r.0), r.1)
-
-pub rises_cut : (f low : ℕ) (xs : List ℕ) → RisesFrom low xs → RisesFrom low (filter (λ e. nat_le e f) xs)
-rises_cut f low [] r = tt
-rises_cut f low (x ∷ xs) r =
-    if_has (RisesFrom low) (nat_le x f) (x ∷ filter (λ e. nat_le e f) xs) (filter (λ e. nat_le e f) xs)
-    (λ _. (r.0, rises_cut f x xs r.1))
-    (λ _. rises_cut f low xs (rises_lower low x xs (omega (arith, r.0)) r.1))
-
-pub contains_cut : (n f : ℕ) (xs : List ℕ) → n ≤ f → contains n (filter (λ e. nat_le e f) xs) ≡ contains n xs
-contains_cut n f [] h = refl
-contains_cut n f (x ∷ xs) h =
-    if_has (λ (l : List ℕ). contains n l ≡ ((n == x) || contains n xs)) (nat_le x f) (x ∷ filter (λ e. nat_le e f) xs) (filter (λ e. nat_le e f) xs)
-    (λ _. ap (λ b. (n == x) || b) (contains_cut n f xs h))
-    (λ e. contains_cut n f xs h ∙ ap (λ b. b || contains n xs) (sym (apart n x (λ q. omega (arith, leb-false x f e, q, h)))))
 
 -- a log that goes on by whole blocks
 pub record Extends (l new : Log) : Type 0 where
@@ -81,10 +54,10 @@ extends_one l b rises ends some =
     let e : ℕ = len + length b in
     let long : length (l.records ++ b) ≡ e = length-append l.records b in
     record {
-      old = λ n h. contains_push n e l.ends ∙ ap (λ t. contains n (0 ∷ l.ends) || t) (apart n e (λ q. omega (arith, h, q, some))) ∙ or_false (contains n (0 ∷ l.ends));
+      old = λ n h. contains_push n e l.ends ∙ ap (λ t. contains n (0 ∷ l.ends) || t) (apart n e (λ q. omega (arith, h, q, some))) ∙ or-false (contains n (0 ∷ l.ends));
       rises = rises_push 0 len e l.ends rises ends (omega (arith, some));
       ends = subst (λ (j : ℕ). EndsIn 0 (l.ends ++ e ∷ []) j) (sym long) (ends_push 0 len (length b) l.ends ends);
-      whole = ap (λ n. contains n (0 ∷ l.ends ++ e ∷ [])) long ∙ contains_push e e l.ends ∙ ap (λ t. contains e (0 ∷ l.ends) || t) (eqb_same e) ∙ or_true (contains e (0 ∷ l.ends));
+      whole = ap (λ n. contains n (0 ∷ l.ends ++ e ∷ [])) long ∙ contains_push e e l.ends ∙ ap (λ t. contains e (0 ∷ l.ends) || t) (eqb_same e) ∙ or_right (contains e (0 ∷ l.ends)) true refl;
       longer = omega (arith, long);
     }
 
@@ -118,24 +91,16 @@ pub blocks_some : (rs : List Record) → AllByRecursion (λ r. record_size r ≤
 unfolding blocks_of
 blocks_some rs small = packed_some (record { full = []; last = [] }) rs tt small
 
--- the records of a promotion fit, where there are so many pages at most
-filter_length : (f : ℕ → Bool) (xs : List ℕ) → length (filter f xs) ≤ length xs
-filter_length f [] = omega arith
-filter_length f (x ∷ xs) =
-    let less : length (filter f xs) ≤ length xs = filter_length f xs in
-    if_has (λ (l : List ℕ). length l ≤ length (x ∷ xs)) (f x) (x ∷ filter f xs) (filter f xs) (λ _. omega (arith, less)) (λ _. omega (arith, less))
-
-range_length : (from count : ℕ) → length (range_with_len from count) ≡ count
-range_length from zero = refl
-range_length from (suc count) = ap suc (range_length (from + 1) count)
-
 listed_length : (pages txn : ℕ) (log : List Record) → length (pages_of pages txn log) ≤ pages
-listed_length pages txn log = omega (arith, filter_length (λ page. list_any (λ r. is_change_of txn r && touches pages page r) log) (page_numbers pages), range_length 16 pages)
+listed_length pages txn log =
+    let test : ℕ → Bool = λ page. list_any (λ r. is_change_of txn r && touches pages page r) log in
+    omega (arith, length-filter test (page_numbers pages), count_by-le-length test (page_numbers pages), length-range_with_len 16 pages)
 
 aborts_small : (pages : ℕ) (log : List Record) (ts : List ℕ) → pages ≤ 2048 → AllByRecursion (λ r. record_size r ≤ 15488) (map (abort_of pages log) ts)
 aborts_small pages log [] h = tt
 aborts_small pages log (t ∷ ts) h = (let n : length (pages_of pages t log) ≤ pages = listed_length pages t log in omega (arith, n, h), aborts_small pages log ts h)
 
+-- the records of a promotion fit, where there are so many pages at most
 pub promotion_small : (pages term : ℕ) (log : List Record) → pages ≤ 2048 → AllByRecursion (λ r. record_size r ≤ 15488) (promotion_records pages term log)
 unfolding promotion_records
 promotion_small pages term log h =

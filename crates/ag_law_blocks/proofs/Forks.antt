@@ -1,13 +1,14 @@
 -- A fork is where a block ends, and past the first record.
 use Rattle.std.proofs.Common.{◌≡◌, ℕ, ◌+◌, ◌-◌, ◌<◌, ◌≤◌, min, List, [], ◌∷◌, ◌++◌, length, refl, sym, ◌∙◌, subst, arith, append_assoc, length-append}
 use Rattle.std.specs.Prelude.{nat_le}
-use Rattle.std.specs.List.{AllByRecursion, flat_map, enumerate_from}
+use Rattle.std.specs.List.{AllByRecursion}
 use Rattle.std.proofs.lemmas.Bool.{leb-true, leb-false}
 use Rattle.ag_model.specs.declared.record.Record.{Record}
 use Rattle.ag_model.specs.declared.record.Record.TheVariants.{Put, Del, Commit, Abort, Trim, Term}
 use Rattle.ag_model.specs.declared.config.TermStart.{TermStart}
-use Rattle.ag_model.specs.Starts.{start_by, term_starts, is_same_start, fork_of_starts}
-use Rattle.ag_laws.proofs.Plans.{by_bool, if_has}
+use Rattle.ag_model.specs.Starts.{term_starts, is_same_start, fork_of_starts}
+use Rattle.ag_lists.proofs.Tests.{by_bool, if_has}
+use Rattle.ag_ends.specs.Starts.{starts_after}
 use Rattle.ag_law_blocks.specs.Marks.{Begins}
 
 -- what both numbers have, the lesser has
@@ -27,7 +28,7 @@ fork_has P (s ∷ ss) e (t ∷ ts) e2 p q ps qs =
     if_has P (is_same_start s t) (fork_of_starts ss e ts e2) (min (s.lsn - 1) (t.lsn - 1)) (λ _. fork_has P ss e ts e2 p q ps.1 qs.1) (λ _. min_has P (s.lsn - 1) (t.lsn - 1) ps.0 qs.0)
 
 -- the starts of records from an LSN on lie there or later
-starts_late : (k : ℕ) (log : List Record) → 2 ≤ k → AllByRecursion (λ s. 0 < s.lsn - 1) (flat_map (λ r. start_by r.0 r.1) (enumerate_from k log))
+starts_late : (k : ℕ) (log : List Record) → 1 ≤ k → AllByRecursion (λ s. 0 < s.lsn - 1) (starts_after k log)
 starts_late k [] h = tt
 starts_late k (Term t ∷ log) h = (omega (arith, h), starts_late (k + 1) log (omega (arith, h)))
 starts_late k (Put t key v ∷ log) h = starts_late (k + 1) log (omega (arith, h))
@@ -38,7 +39,7 @@ starts_late k (Trim p x ∷ log) h = starts_late (k + 1) log (omega (arith, h))
 
 fork_of_begun : (a b : List Record) (e e2 : ℕ) → 0 < e → 0 < e2 → 0 < fork_of_starts (term_starts (Term 1 ∷ a)) e (term_starts (Term 1 ∷ b)) e2
 unfolding fork_of_starts
-fork_of_begun a b e e2 h k = fork_has (λ n. 0 < n) (flat_map (λ r. start_by r.0 r.1) (enumerate_from 2 a)) e (flat_map (λ r. start_by r.0 r.1) (enumerate_from 2 b)) e2 h k (starts_late 2 a (omega arith)) (starts_late 2 b (omega arith))
+fork_of_begun a b e e2 h k = fork_has (λ n. 0 < n) (starts_after 1 a) e (starts_after 1 b) e2 h k (starts_late 1 a (omega arith)) (starts_late 1 b (omega arith))
 
 -- logs that begin with the first term part past it
 pub fork_some : (a b : List Record) → Begins a → Begins b → 0 < fork_of_starts (term_starts a) (length a) (term_starts b) (length b)
@@ -51,10 +52,10 @@ fork_some a b p q =
 pub starts_have : (P : ℕ → Type 0) (log : List Record) → ((front : List Record) (t : ℕ) (back : List Record) → log ≡ front ++ Term t ∷ back → P (length front)) → AllByRecursion (λ s. P (s.lsn - 1)) (term_starts log)
 starts_have P log all = from [] log refl
   where
-    next : (front : List Record) (r : Record) (rest : List Record) → AllByRecursion (λ (s : TermStart). P (s.lsn - 1)) (flat_map (λ r. start_by r.0 r.1) (enumerate_from (length (front ++ r ∷ []) + 1) rest)) → AllByRecursion (λ (s : TermStart). P (s.lsn - 1)) (flat_map (λ r. start_by r.0 r.1) (enumerate_from (length front + 1 + 1) rest))
-    next front r rest p = subst (λ (n : ℕ). AllByRecursion (λ (s : TermStart). P (s.lsn - 1)) (flat_map (λ r. start_by r.0 r.1) (enumerate_from (n + 1) rest))) (length-append front (r ∷ [])) p
+    next : (front : List Record) (r : Record) (rest : List Record) → AllByRecursion (λ (s : TermStart). P (s.lsn - 1)) (starts_after (length (front ++ r ∷ [])) rest) → AllByRecursion (λ (s : TermStart). P (s.lsn - 1)) (starts_after (length front + 1) rest)
+    next front r rest p = subst (λ (n : ℕ). AllByRecursion (λ (s : TermStart). P (s.lsn - 1)) (starts_after n rest)) (length-append front (r ∷ [])) p
 
-    from : (front rest : List Record) → log ≡ front ++ rest → AllByRecursion (λ (s : TermStart). P (s.lsn - 1)) (flat_map (λ r. start_by r.0 r.1) (enumerate_from (length front + 1) rest))
+    from : (front rest : List Record) → log ≡ front ++ rest → AllByRecursion (λ (s : TermStart). P (s.lsn - 1)) (starts_after (length front) rest)
     from front [] e = tt
     from front (Term t ∷ rest) e = (subst P (omega arith) (all front t rest e), next front (Term t) rest (from (front ++ Term t ∷ []) rest (e ∙ sym (append_assoc front (Term t ∷ []) rest))))
     from front (Put t k v ∷ rest) e = next front (Put t k v) rest (from (front ++ Put t k v ∷ []) rest (e ∙ sym (append_assoc front (Put t k v ∷ []) rest)))

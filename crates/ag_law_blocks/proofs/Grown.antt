@@ -16,16 +16,17 @@ use Rattle.ag_model.specs.Blocks.{cut_at}
 use Rattle.ag_model.specs.Rows.{contains}
 use Rattle.ag_model.specs.Starts.{last_term}
 use Rattle.ag_rules.specs.Group.{Group, replica}
+use Rattle.ag_lists.proofs.Tests.{by_bool, if_has}
+use Rattle.ag_lists.proofs.Each.{all_map}
 use Rattle.ag_laws.specs.Prefix.{IsPrefixOf}
 use Rattle.ag_laws.specs.Logs.{Logs, IsTraced}
 use Rattle.ag_laws.specs.Fits.{IsPart}
 use Rattle.ag_laws.proofs.Prefix.{prefix_length, take_prefix}
-use Rattle.ag_laws.proofs.Plans.{by_bool, if_has}
-use Rattle.ag_laws.proofs.Lists.{all_map}
 use Rattle.ag_laws.proofs.Grow.{traced_longer}
 use Rattle.ag_law_proper.proofs.Splits.{OldPlace, NewPlace, place_in}
 use Rattle.ag_law_blocks.specs.Marks.{Marks, mark_at, Marked, MarkedFork, BodyMarked}
-use Rattle.ag_law_blocks.proofs.Ends.{Extends, rises_cut, contains_cut}
+use Rattle.ag_law_blocks.proofs.Ends.{Extends}
+use Rattle.ag_model.proofs.Rising.{rises-filter, filter-contains}
 
 -- the marks after an event: past the old logs, those of the leaders' disks
 abbrev pub grown_marks : Marks → Logs → (ℕ → ℕ) → Group → Marks
@@ -109,10 +110,10 @@ cut_marked marks logs new grown l term fork b t within prefix told m =
     let cut : List Record = take fork recs in
     let long : length cut ≡ fork = length-take-le fork recs within in
     let front : IsPrefixOf cut recs = (drop fork recs, take-append-drop fork recs) in
-    let ends : (n : ℕ) → n ≤ fork → contains n (0 ∷ filter (λ e. nat_le e fork) l.ends) ≡ contains n (0 ∷ l.ends) = λ n h. ap (λ x. (n == 0) || x) (contains_cut n fork l.ends h) in
+    let ends : (n : ℕ) → n ≤ fork → contains n (0 ∷ filter (λ e. nat_le e fork) l.ends) ≡ contains n (0 ∷ l.ends) = λ n h. ap (λ x. (n == 0) || x) (filter-contains n fork h l.ends) in
     record {
       same = λ n h. ends n (omega (arith, h, long)) ∙ m.same n (omega (arith, h, long, within)) ∙ sym (same_mark marks logs new grown recs n b t (omega (arith, h, long, within))) ∙ mark_longer new cut recs n front h;
-      rises = rises_cut fork 0 l.ends m.rises;
+      rises = rises-filter (λ e. nat_le e fork) 0 l.ends m.rises;
       whole = ap (λ n. contains n (0 ∷ filter (λ e. nat_le e fork) l.ends)) long ∙ ends fork (omega arith) ∙ m.same fork within ∙ mark_longer marks cut recs fork front (omega (arith, long)) ∙ sym (mark_longer marks cut (logs term) fork prefix (omega (arith, long))) ∙ told.whole;
       terms = λ first u back e.
           let place : recs ≡ first ++ Term u ∷ (back ++ drop fork recs) = sym front.1 ∙ ap (λ x. x ++ drop fork recs) e ∙ append_assoc first (Term u ∷ back) (drop fork recs) in

@@ -17,12 +17,13 @@ use Rattle.ag_rules.specs.Next.{done}
 use Rattle.ag_rules.specs.Run.{moments_from, run}
 use Rattle.ag_rules.specs.Script.{IsEvent, IsScript}
 use Rattle.ag_rules.specs.TermLog.{groups}
+use Rattle.ag_lists.proofs.Each.{all_map}
+use Rattle.ag_lists.proofs.Places.{at_replicate}
 use Rattle.ag_laws.specs.Logs.{Setting, Logs}
 use Rattle.ag_laws.specs.At.{At}
 use Rattle.ag_laws.specs.Good.{Good}
 use Rattle.ag_laws.specs.First.{first_setting, first_logs}
 use Rattle.ag_laws.specs.Keeps.{Keeps}
-use Rattle.ag_laws.proofs.Lists.{all_map}
 use Rattle.ag_laws.proofs.Events.{next_keeps}
 use Rattle.ag_laws.proofs.Opening.{opening_good}
 use Rattle.ag_law_proper.specs.Growth.{Posts}
@@ -31,7 +32,8 @@ use Rattle.ag_law_proper.proofs.Events.{next_goes}
 use Rattle.ag_law_blocks.specs.Blocked.{IsBlocked, AreBlocked}
 use Rattle.ag_law_blocks.specs.Marks.{Marks, Begins, Marked, MessageMarked}
 use Rattle.ag_law_blocks.proofs.Grown.{body_grows}
-use Rattle.ag_law_blocks.proofs.Steps.{Around, marks_after, between_of, traced_of, all_marked, all_begin, whole_of, log_fits}
+use Rattle.ag_law_blocks.proofs.Steps.{Around, marks_after, between_of, all_marked, all_begin, whole_of, log_fits}
+use Rattle.ag_laws.proofs.Grow.{records_traced}
 use Rattle.ag_law_blocks.proofs.Sectors.{IsWhole, log_long}
 use Rattle.ag_law_blocks.proofs.Sent.{posted_marked, up_there}
 
@@ -60,7 +62,7 @@ next_ended marks s logs g e good is pages ended k =
   where
     one_of : (x : ℕ) (m : Message) → MessageMarked marks logs m ⊎ Posts (MessageMarked marks logs) (replica g x) m → MessageMarked marks logs m
     one_of x m (inl p) = p
-    one_of x m (inr p) = posted_marked marks s logs x (replica g x) m good.are (good.each x) (λ up. ended.begins x (up_there g.replicas x up)) (ended.marked x) (traced_of s logs g x good) p
+    one_of x m (inr p) = posted_marked marks s logs x (replica g x) m good.are (good.each x) (λ up. ended.begins x (up_there g.replicas x up)) (ended.marked x) (records_traced s logs g x good) p
 
 some_last : (len : ℕ) (xs : List ℕ) → 0 < len → last_or (Some 0) xs ≡ Some len → last_or None xs ≡ Some len
 some_last len [] h e = let same : 0 ≡ len = cc in absurd (omega (arith, h, same))
@@ -149,11 +151,6 @@ replicas_begin c [] n h = absurd (omega arith)
 replicas_begin c (m ∷ ms) zero h = ([], refl)
 replicas_begin c (m ∷ ms) (suc n) h = others_begin c ms n (omega arith)
 
-no_links : {A : Type 0} (P : A → Type 0) (k : ℕ) (x d : A) (n : ℕ) → P d → P x → P (get_or (replicate k x) n d)
-no_links P zero x d n p q = p
-no_links P (suc k) x d zero p q = q
-no_links P (suc k) x d (suc n) p q = no_links P k x d n p q
-
 others_fit : (c : Config) (ms : List Mode) (n : ℕ) → log_sectors (get_or (map (λ (m : Mode). opening_replica c false) ms) n nobody).kept.log ≤ 262144
 unfolding opening_replica
 others_fit c [] n = omega arith
@@ -173,8 +170,8 @@ first_ended c = record {
   begins = replicas_begin c c.modes;
   sectors = replicas_fit c c.modes;
   told = λ a b.
-      no_links (λ (row : List (List Message)). AllByRecursion (MessageMarked first_marks first_logs) (get_or row b [])) (length c.modes) (replicate (length c.modes) []) [] a tt
-      (no_links (λ (l : List Message). AllByRecursion (MessageMarked first_marks first_logs) l) (length c.modes) [] [] b tt tt);
+      at_replicate (λ (row : List (List Message)). AllByRecursion (MessageMarked first_marks first_logs) (get_or row b [])) (length c.modes) (replicate (length c.modes) []) [] a tt
+      (at_replicate (λ (l : List Message). AllByRecursion (MessageMarked first_marks first_logs) l) (length c.modes) [] [] b tt tt);
 }
 
 pub blocks_in_run : (c : Config) (es : List Event) → c.pages ≤ 2048 → 0 < length c.modes → IsScript c es → AllByRecursion AreBlocked (groups (run c es))

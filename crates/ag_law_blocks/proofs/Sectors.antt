@@ -1,9 +1,9 @@
 -- The sectors that a log takes, where it goes on by blocks or is cut, and how many records they have.
-use Rattle.std.proofs.Common.{◌≡◌, ℕ, zero, suc, ◌+◌, ◌-◌, ◌*◌, ◌<◌, ◌≤◌, List, [], ◌∷◌, ◌++◌, length, take, drop, refl, sym, ap, ◌∙◌, subst, arith, length-append}
+use Rattle.std.proofs.Common.{◌≡◌, ℕ, ◌+◌, ◌-◌, ◌*◌, ◌≤◌, List, [], ◌∷◌, ◌++◌, length, take, drop, refl, sym, ap, ◌∙◌, subst, arith, length-append}
 use Rattle.std.specs.Prelude.{Some, nat_le}
 use Rattle.std.specs.List.{filter, last_or}
 use Rattle.std.proofs.lemmas.Bool.{leb-true, leb-false}
-use Rattle.std.proofs.lemmas.List.{take-append-le, take_all, length-take-le, length-drop, drop-append-le}
+use Rattle.std.proofs.lemmas.List.{take-append-le, take_all, length-take-le, length-drop, drop-append-le, nil_from_length, take-take, drop-take}
 use Rattle.std.proofs.lemmas.List.Sums.{sum_by-append}
 use Rattle.ag_model.specs.declared.record.Record.{Record}
 use Rattle.ag_model.specs.declared.record.Record.TheVariants.{Put, Del, Commit, Abort, Trim, Term}
@@ -11,40 +11,18 @@ use Rattle.ag_model.specs.declared.record.Log.{Log}
 use Rattle.ag_model.specs.Blocks.{with_block, cut_at}
 use Rattle.ag_model.specs.Sizes.{record_size, records_size, block_sectors, blocks_sectors, sectors_to, log_sectors}
 use Rattle.ag_model.specs.Proper.{RisesFrom}
+use Rattle.ag_model.proofs.Rising.{filter-none}
+use Rattle.ag_lists.proofs.Tests.{if_has}
 use Rattle.ag_laws.specs.Ends.{EndsIn}
-use Rattle.ag_laws.proofs.Plans.{if_has}
+use Rattle.ag_laws.proofs.Ends.{ends_le}
 
 -- the last end is the end of these records, which start after `start`
 abbrev pub IsWhole : ℕ → List ℕ → List Record → Type 0
 IsWhole start es rs = EndsIn start es (start + length rs) × (last_or (Some start) es ≡ Some (start + length rs))
 
-take_take : (n m : ℕ) (a : List Record) → n ≤ m → take n (take m a) ≡ take n a
-take_take zero m a h = refl
-take_take (suc n) zero a h = absurd (omega arith)
-take_take (suc n) (suc m) [] h = refl
-take_take (suc n) (suc m) (x ∷ a) h = ap (λ l. x ∷ l) (take_take n m a (omega arith))
-
-drop_take : (n m : ℕ) (a : List Record) → n ≤ m → drop n (take m a) ≡ take (m - n) (drop n a)
-drop_take zero m a h = ap (λ k. take k a) (omega arith)
-drop_take (suc n) zero a h = absurd (omega arith)
-drop_take (suc n) (suc m) [] h = sym (none (suc m - suc n))
-  where
-    none : (k : ℕ) → (let nil : List Record = [] in take k nil ≡ nil)
-    none zero = refl
-    none (suc k) = refl
-drop_take (suc n) (suc m) (x ∷ a) h = drop_take n m a (omega arith) ∙ ap (λ k. take k (drop n a)) (omega arith)
-
-pub ends_le : (start len : ℕ) (es : List ℕ) → EndsIn start es len → start ≤ len
-ends_le start len [] p = p
-ends_le start len (e ∷ es) p = let q : e ≤ len = ends_le e len es p.1 in omega (arith, p.0, q)
-
 -- the records after the first block
 rest_long : (start x : ℕ) (rs : List Record) → start ≤ x → x ≤ start + length rs → x + length (drop (x - start) rs) ≡ start + length rs
 rest_long start x rs low high = omega (arith, length-drop (x - start) rs, low, high)
-
-none_left : (rs : List Record) → length rs ≡ 0 → rs ≡ []
-none_left [] e = refl
-none_left (r ∷ rs) e = absurd (omega (arith, e))
 
 whole_rest : (start x : ℕ) (xs : List ℕ) (rs : List Record) → IsWhole start (x ∷ xs) rs → IsWhole x xs (drop (x - start) rs)
 whole_rest start x xs rs w =
@@ -56,7 +34,7 @@ whole_rest start x xs rs w =
 sectors_push : (start : ℕ) (es : List ℕ) (rs b : List Record) → IsWhole start es rs → sectors_to start (es ++ (start + length rs + length b) ∷ []) (rs ++ b) ≡ sectors_to start es rs + block_sectors b
 sectors_push start [] rs b w =
     let same : start ≡ start + length rs = cc in
-    let none : rs ≡ [] = none_left rs (omega (arith, same)) in
+    let none : rs ≡ [] = nil_from_length rs (omega (arith, same)) in
     let all : take (start + length rs + length b - start) (rs ++ b) ≡ b = ap (λ (l : List Record). take (start + length l + length b - start) (l ++ b)) none ∙ take_all (start + 0 + length b - start) b (omega arith) in
     let one : block_sectors (take (start + length rs + length b - start) (rs ++ b)) ≡ block_sectors b = ap block_sectors all in
     omega (arith, one)
@@ -96,27 +74,20 @@ whole_more l b w =
       last_more 0 l.ends (length l.records + length b) ∙ ap Some long,
     )
 
--- a cut takes no more
-none_kept : (f x : ℕ) (xs : List ℕ) → f < x → RisesFrom x xs → filter (λ e. nat_le e f) xs ≡ []
-none_kept f x [] h r = refl
-none_kept f x (y ∷ xs) h r =
-    if_has (λ (l : List ℕ). l ≡ []) (nat_le y f) (y ∷ filter (λ e. nat_le e f) xs) (filter (λ e. nat_le e f) xs)
-    (λ e. absurd (omega (arith, leb-true y f e, h, r.0)))
-    (λ _. none_kept f y xs (omega (arith, h, r.0)) r.1)
-
 sectors_cut : (f start : ℕ) (es : List ℕ) (rs : List Record) → RisesFrom start es → sectors_to start (filter (λ e. nat_le e f) es) (take (f - start) rs) ≤ sectors_to start es rs
 sectors_cut f start [] rs r = omega arith
 sectors_cut f start (x ∷ xs) rs r =
     if_has (λ (l : List ℕ). sectors_to start l (take (f - start) rs) ≤ sectors_to start (x ∷ xs) rs) (nat_le x f) (x ∷ filter (λ e. nat_le e f) xs) (filter (λ e. nat_le e f) xs)
     (λ e.
     let h : x ≤ f = leb-true x f e in
-    let one : block_sectors (take (x - start) (take (f - start) rs)) ≡ block_sectors (take (x - start) rs) = ap block_sectors (take_take (x - start) (f - start) rs (omega (arith, h))) in
+    let span : f - start ≡ (x - start) + (f - x) = omega (arith, h, r.0) in
+    let one : block_sectors (take (x - start) (take (f - start) rs)) ≡ block_sectors (take (x - start) rs) = ap block_sectors (take-take (x - start) (f - start) rs (omega (arith, h))) in
     let two : sectors_to x (filter (λ e. nat_le e f) xs) (drop (x - start) (take (f - start) rs)) ≤ sectors_to x xs (drop (x - start) rs) =
     subst (λ (l : List Record). sectors_to x (filter (λ e. nat_le e f) xs) l ≤ sectors_to x xs (drop (x - start) rs))
-    (sym (drop_take (x - start) (f - start) rs (omega (arith, h)) ∙ ap (λ k. take k (drop (x - start) rs)) (omega (arith, h, r.0))))
+    (sym (ap (λ k. drop (x - start) (take k rs)) span ∙ drop-take (x - start) (f - x) rs))
     (sectors_cut f x xs (drop (x - start) rs) r.1) in
     omega (arith, one, two))
-    (λ e. subst (λ (l : List ℕ). sectors_to start l (take (f - start) rs) ≤ sectors_to start (x ∷ xs) rs) (sym (none_kept f x xs (omega (arith, leb-false x f e)) r.1)) (omega arith))
+    (λ e. subst (λ (l : List ℕ). sectors_to start l (take (f - start) rs) ≤ sectors_to start (x ∷ xs) rs) (sym (filter-none f x xs r.1 (omega (arith, leb-false x f e)))) (omega arith))
 
 pub cut_less : (l : Log) (fork : ℕ) → RisesFrom 0 l.ends → log_sectors (cut_at fork l) ≤ log_sectors l
 cut_less l fork r =

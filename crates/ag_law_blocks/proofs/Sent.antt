@@ -3,7 +3,8 @@ use Rattle.std.specs.Prelude.{if◌then◌else◌}
 use Rattle.std.proofs.Common.{◌≡◌, ℕ, zero, suc, ◌+◌, ◌-◌, ◌<◌, ◌≤◌, List, [], ◌∷◌, ◌++◌, length, take, drop, get_or, true, false, inl, inr, refl, sym, ap, ◌∙◌, subst, arith, append_assoc, length-append}
 use Rattle.std.specs.Prelude.{◌==◌, ◌||◌, ◌⊎◌, Some}
 use Rattle.std.proofs.lemmas.Bool.{false≢true, eqb-true}
-use Rattle.std.proofs.lemmas.List.{take-append-drop, length-take-le}
+use Rattle.std.proofs.lemmas.List.{take-append-drop, length-take-le, nil_from_length}
+use Rattle.std.proofs.Math.Bool.{or-false}
 use Rattle.ag_model.specs.declared.record.Record.{Record}
 use Rattle.ag_model.specs.declared.record.Record.TheVariants.{Term}
 use Rattle.ag_model.specs.declared.config.TermStart.{TermStart}
@@ -17,12 +18,12 @@ use Rattle.ag_model.specs.Proper.{RisesFrom}
 use Rattle.ag_rules.specs.Replica.{Replica, records, end, peer}
 use Rattle.ag_rules.specs.Group.{nobody}
 use Rattle.ag_rules.specs.HelloMessage.{fork_with}
+use Rattle.ag_lists.proofs.Tests.{by_bool}
+use Rattle.ag_lists.proofs.Each.{all_map}
 use Rattle.ag_laws.specs.Prefix.{IsPrefixOf}
 use Rattle.ag_laws.specs.Logs.{Setting, Logs, AreLogs, IsTraced}
 use Rattle.ag_laws.specs.Fits.{IsPart}
 use Rattle.ag_laws.specs.At.{At}
-use Rattle.ag_laws.proofs.Plans.{by_bool}
-use Rattle.ag_laws.proofs.Lists.{all_map}
 use Rattle.ag_laws.proofs.Prefix.{prefix_length}
 use Rattle.ag_laws.proofs.Ends.{BlockAt, block_at}
 use Rattle.ag_laws.proofs.Parts.{part_between}
@@ -30,7 +31,6 @@ use Rattle.ag_laws.proofs.Starts.{Agree, agree}
 use Rattle.ag_law_proper.specs.Growth.{Posts, Plain, SaysHello, Answers, Sends, is_plain}
 use Rattle.ag_law_proper.proofs.Numbers.{apart}
 use Rattle.ag_law_blocks.specs.Marks.{Marks, mark_at, Begins, Marked, MarkedBlock, MarkedHello, MarkedFork, BodyMarked, MessageMarked}
-use Rattle.ag_law_blocks.proofs.Ends.{or_false}
 use Rattle.ag_law_blocks.proofs.Grown.{mark_longer}
 use Rattle.ag_law_blocks.proofs.Forks.{fork_has, fork_some, starts_have}
 
@@ -57,7 +57,7 @@ adjacent start first last (x ∷ xs) r e =
       first_is = eqb-true first (start + 1) t;
       above = omega arith;
       some = omega (arith, same, r.0);
-      between = λ n low high. ap (λ y. (n == start) || ((n == y) || contains n xs)) same ∙ ap (λ b. (n == start) || ((n == last) || b)) (none_low n x xs r.1 (omega (arith, same, high))) ∙ ap (λ b. (n == start) || b) (or_false (n == last));
+      between = λ n low high. ap (λ y. (n == start) || ((n == y) || contains n xs)) same ∙ ap (λ b. (n == start) || ((n == last) || b)) (none_low n x xs r.1 (omega (arith, same, high))) ∙ ap (λ b. (n == start) || b) (or-false (n == last));
     })
     (λ _ t q.
     let more : Adjacent x first last xs = adjacent x first last xs r.1 q in
@@ -69,10 +69,6 @@ adjacent start first last (x ∷ xs) r e =
       between = λ n low high. ap (λ b. b || contains n (x ∷ xs)) (apart n start (λ q. omega (arith, q, low, more.above, r.0))) ∙ more.between n low high;
     })
     refl e
-
-nil_of : (xs : List Record) → length xs ≡ 0 → xs ≡ []
-nil_of [] e = refl
-nil_of (x ∷ xs) e = absurd (omega (arith, e))
 
 -- the block that a primary sends
 sent_block : (marks : Marks) (s : Setting) (logs : Logs) (n : ℕ) (r : Replica) (first last : ℕ) → At s logs n r → Marked marks r.kept.log → end_of_block 0 first r.kept.log.ends ≡ Some last
@@ -107,13 +103,13 @@ sent_block marks s logs n r first last a m e =
           let low : d.begin_ + length front < last = omega (arith, inside, long, start) in
           let ended : ((d.begin_ + length front == d.begin_) || (d.begin_ + length front == last)) ≡ true =
           sym (d.between (d.begin_ + length front) (omega arith) (omega (arith, low))) ∙ ap (λ k. contains k (0 ∷ r.kept.log.ends)) (sym where_) ∙ m.terms (take (first - 1) seg ++ front) u (back ++ drop last recs) place in
-          nil_of front (same_begin d.begin_ (length front) last low ended);
+          nil_from_length front (same_begin d.begin_ (length front) last low ended);
     }
   where
     same_begin : (b k last : ℕ) → b + k < last → ((b + k == b) || (b + k == last)) ≡ true → k ≡ 0
     same_begin b k last low e =
         let not_last : (b + k == last) ≡ false = apart (b + k) last (λ q. omega (arith, q, low)) in
-        let is : (b + k == b) ≡ true = sym (or_false (b + k == b)) ∙ ap (λ t. (b + k == b) || t) (sym not_last) ∙ e in
+        let is : (b + k == b) ≡ true = sym (or-false (b + k == b)) ∙ ap (λ t. (b + k == b) || t) (sym not_last) ∙ e in
         omega (arith, eqb-true (b + k) b is)
 
 -- a Hello

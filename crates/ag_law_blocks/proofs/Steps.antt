@@ -17,28 +17,31 @@ use Rattle.ag_rules.specs.Promotion.{promotion_records, abort_of}
 use Rattle.ag_model.specs.Proper.{RisesFrom}
 use Rattle.ag_model.specs.Sizes.{block_sectors, blocks_sectors, log_sectors}
 use Rattle.std.proofs.lemmas.List.Sums.{sum_by-append}
+use Rattle.ag_lists.proofs.Tests.{by_bool}
+use Rattle.ag_lists.proofs.Each.{all_take, all_left}
+use Rattle.ag_lists.proofs.Places.{take_past}
 use Rattle.ag_laws.specs.Ends.{EndsIn}
 use Rattle.ag_laws.specs.Prefix.{IsPrefixOf}
-use Rattle.ag_laws.specs.Logs.{Setting, Logs, IsTraced}
+use Rattle.ag_laws.specs.Logs.{Setting, Logs}
 use Rattle.ag_laws.specs.Disk.{IsOwn}
 use Rattle.ag_laws.specs.At.{At, NoTerm}
 use Rattle.ag_laws.specs.Good.{Good}
 use Rattle.ag_laws.specs.Keeps.{Keeps}
-use Rattle.ag_laws.proofs.Plans.{by_bool}
-use Rattle.ag_laws.proofs.Lists.{all_take}
 use Rattle.ag_laws.proofs.Prefix.{prefix_length}
 use Rattle.ag_laws.proofs.Parts.{part_after}
 use Rattle.ag_laws.proofs.Blocks.{flat}
-use Rattle.ag_laws.proofs.Grow.{last_quiet, last_begun, traced_prefix}
+use Rattle.ag_laws.proofs.Grow.{last_quiet, last_begun, records_traced}
 use Rattle.ag_law_proper.specs.Growth.{LogGoes, Stands, Cuts, Hardens, Promotes, Comes, with_blocks, LogFits}
 use Rattle.ag_law_proper.proofs.Lifts.{GroupGoes}
 use Rattle.ag_law_proper.proofs.TakesGoes.{records_of_blocks}
 use Rattle.ag_law_proper.proofs.Runs.{promoted_front}
-use Rattle.ag_law_proper.proofs.Rising.{aborts_termless}
+use Rattle.ag_laws.proofs.Promoted.{aborts_quiet}
 use Rattle.ag_law_proper.proofs.Numbers.{apart}
 use Rattle.ag_law_blocks.specs.Marks.{Marks, mark_at, Begins, Marked, MessageMarked}
-use Rattle.ag_law_blocks.proofs.Ends.{Extends, extends_one, extends_all, blocks_some, promotion_small, contains_push, none_past, or_false}
-use Rattle.ag_law_blocks.proofs.Sectors.{IsWhole, ends_le, block_more, blocks_cons, whole_more, cut_less}
+use Rattle.ag_law_blocks.proofs.Ends.{Extends, extends_one, extends_all, blocks_some, promotion_small, contains_push, none_past}
+use Rattle.std.proofs.Math.Bool.{or-false}
+use Rattle.ag_law_blocks.proofs.Sectors.{IsWhole, block_more, blocks_cons, whole_more, cut_less}
+use Rattle.ag_laws.proofs.Ends.{ends_le}
 use Rattle.ag_law_blocks.proofs.Grown.{Between, grown_marks, mark_new, between, traced_within, same_mark, mark_longer, still_marked, cut_marked, grown_marked}
 
 -- records that a primary appends: their last term is this one, and a term starts at the first of them alone
@@ -67,18 +70,14 @@ begun_appended term base tail none = record { last = last; first = first }
     first [] u back p = refl
     first (x ∷ xs) u back p = let rest : tail ≡ xs ++ Term u ∷ back = cc in absurd (no_term_at tail xs u back none rest)
 
-quiet_front : (a b : List Record) → NoTerm (a ++ b) → NoTerm a
-quiet_front [] b p = tt
-quiet_front (x ∷ a) b p = (p.0, quiet_front a b p.1)
-
 -- a beginning of the records of a promotion
 front_appended : (pages term : ℕ) (log tail rest : List Record) → last_term log ≤ term → tail ++ rest ≡ promotion_records pages term log → Appended term log tail
 unfolding promotion_records
 front_appended pages term log tail rest low is =
     let aborts : List Record = map (abort_of pages log) (open_in log) in
     by_bool (nat_lt (last_term log) term) (λ v. nat_lt (last_term log) term ≡ v → tail ++ rest ≡ (if v then Term term ∷ [] else []) ++ aborts → Appended term log tail)
-    (λ _ _ q. by_first tail aborts (aborts_termless pages log (open_in log)) q)
-    (λ _ e q. quiet_appended term log tail (omega (arith, low, ltb-false (last_term log) term e)) (quiet_front tail rest (subst (λ (l : List Record). NoTerm l) (sym q) (aborts_termless pages log (open_in log)))))
+    (λ _ _ q. by_first tail aborts (aborts_quiet pages log (open_in log)) q)
+    (λ _ e q. quiet_appended term log tail (omega (arith, low, ltb-false (last_term log) term e)) (all_left _ tail rest (subst (λ (l : List Record). NoTerm l) (sym q) (aborts_quiet pages log (open_in log)))))
     refl is
   where
     by_first : (tail aborts : List Record) → NoTerm aborts → tail ++ rest ≡ Term term ∷ aborts → Appended term log tail
@@ -86,12 +85,7 @@ front_appended pages term log tail rest low is =
     by_first (x ∷ tail) aborts none q =
         let same : Term term ≡ x = cc in
         let others : tail ++ rest ≡ aborts = cc in
-        subst (λ (y : Record). Appended term log (y ∷ tail)) same (begun_appended term log tail (quiet_front tail rest (subst (λ (l : List Record). NoTerm l) (sym others) none)))
-
-take_past : (n : ℕ) (base tail : List Record) → length base ≤ n → take n (base ++ tail) ≡ base ++ take (n - length base) tail
-take_past n [] tail h = ap (λ k. take k tail) (omega arith)
-take_past zero (x ∷ base) tail h = absurd (omega arith)
-take_past (suc n) (x ∷ base) tail h = ap (λ l. x ∷ l) (take_past n base tail (omega arith) ∙ ap (λ k. base ++ take k tail) (omega arith))
+        subst (λ (y : Record). Appended term log (y ∷ tail)) same (begun_appended term log tail (all_left _ tail rest (subst (λ (l : List Record). NoTerm l) (sym others) none)))
 
 -- what is known around one event
 pub record Around (marks : Marks) (s : Setting) (logs : Logs) (g after : Group) : Type 0 where
@@ -107,9 +101,6 @@ marks_after marks s logs g after a = grown_marks marks logs a.keeps.setting.lead
 
 pub between_of : (marks : Marks) (s : Setting) (logs : Logs) (g after : Group) (a : Around marks s logs g after) → Between marks logs (marks_after marks s logs g after a) a.keeps.grown
 between_of marks s logs g after a = between marks logs a.keeps.grown a.keeps.setting.leader after a.keeps.later.longer a.good.are.traced
-
-pub traced_of : (s : Setting) (logs : Logs) (g : Group) (n : ℕ) → Good s logs g → IsTraced logs (records (replica g n))
-traced_of s logs g n good = let a : At s logs n (replica g n) = good.each n in traced_prefix logs (records (replica g n)) (logs (term_of_disk (replica g n).kept)) a.kept.prefix (good.are.traced (term_of_disk (replica g n).kept))
 
 -- a log of a term that goes past what it was is that of the writer
 leader_wrote : (marks : Marks) (s : Setting) (logs : Logs) (g after : Group) (a : Around marks s logs g after) (u n : ℕ) → length (logs u) < n → n ≤ length (a.keeps.grown u) → a.keeps.setting.leader u ≡ a.goes.writer
@@ -138,23 +129,20 @@ own_marks marks s logs g after a term base tail old is short app n low high =
     let more : List Record = records (replica after w) in
     let size : length more ≡ length base + length tail = ap length is ∙ length-append base tail in
     let last : last_term (take n more) ≡ term = ap (λ l. last_term (take n l)) is ∙ ap (λ l. last_term l) (take_past n base tail (omega (arith, low))) ∙ app.last (n - length base) (omega (arith, low)) (omega (arith, high, size)) in
-    let within : n ≤ length (a.keeps.grown term) = subst (λ (t : ℕ). n ≤ length (a.keeps.grown t)) last (traced_within a.keeps.grown more n (traced_of a.keeps.setting a.keeps.grown after w a.keeps.good) high) in
+    let within : n ≤ length (a.keeps.grown term) = subst (λ (t : ℕ). n ≤ length (a.keeps.grown t)) last (traced_within a.keeps.grown more n (records_traced a.keeps.setting a.keeps.grown after w a.keeps.good) high) in
     let past : length (logs term) < n = omega (arith, short, low) in
     ap (λ t. marks_after marks s logs g after a t n) last ∙ mark_new marks logs a.keeps.setting.leader after term n past
     ∙ ap (λ (m : ℕ). contains n (0 ∷ (replica after m).kept.log.ends)) (leader_wrote marks s logs g after a term n past within)
-
-log_eta : (l : Log) (a : List Record) (es : List ℕ) → a ≡ l.records → es ≡ l.ends → record { records = a; ends = es } ≡ l
-log_eta l a es p q = ap (λ x. record { records = x; ends = es }) p ∙ ap (λ x. record { records = l.records; ends = x }) q
 
 -- the log of the writer after the event
 pub writer_marked : (marks : Marks) (s : Setting) (logs : Logs) (g after : Group) (a : Around marks s logs g after) → Marked (marks_after marks s logs g after a) (replica after a.goes.writer).kept.log
 writer_marked marks s logs g after a = by_case a.goes.log
   where
     by_case : LogGoes logs (MessageMarked marks logs) g.config.pages (replica g a.goes.writer) (replica after a.goes.writer).kept.log → Marked (marks_after marks s logs g after a) (replica after a.goes.writer).kept.log
-    by_case (Stands e) = subst (Marked (marks_after marks s logs g after a)) (sym e) (still_marked marks logs (marks_after marks s logs g after a) a.keeps.grown (replica g a.goes.writer).kept.log (between_of marks s logs g after a) (traced_of s logs g a.goes.writer a.good) (a.marked a.goes.writer))
+    by_case (Stands e) = subst (Marked (marks_after marks s logs g after a)) (sym e) (still_marked marks logs (marks_after marks s logs g after a) a.keeps.grown (replica g a.goes.writer).kept.log (between_of marks s logs g after a) (records_traced s logs g a.goes.writer a.good) (a.marked a.goes.writer))
     by_case (Cuts term fork its_end ticket told answered e) =
         subst (Marked (marks_after marks s logs g after a)) (sym e)
-        (cut_marked marks logs (marks_after marks s logs g after a) a.keeps.grown (replica g a.goes.writer).kept.log term fork (between_of marks s logs g after a) (traced_of s logs g a.goes.writer a.good) answered.within answered.prefix told (a.marked a.goes.writer))
+        (cut_marked marks logs (marks_after marks s logs g after a) a.keeps.grown (replica g a.goes.writer).kept.log term fork (between_of marks s logs g after a) (records_traced s logs g a.goes.writer a.good) answered.within answered.prefix told (a.marked a.goes.writer))
     by_case (Hardens leads some fits e) =
         let r : Replica = replica g a.goes.writer in
         let at : At s logs a.goes.writer r = a.good.each a.goes.writer in
@@ -164,7 +152,7 @@ writer_marked marks s logs g after a = by_case a.goes.log
         let is : records (replica after a.goes.writer) ≡ records r ++ r.leading.buffer = ap (λ (l : Log). l.records) e in
         let app : Appended r.term (records r) r.leading.buffer = quiet_appended r.term (records r) r.leading.buffer (own.begun ∙ sym at.term) (at.leads leads).buffer in
         let short : length (logs r.term) ≤ length (records r) = omega (arith, ap length own.whole, ap (λ (t : ℕ). length (logs t)) at.term) in
-        grown_marked marks logs (marks_after marks s logs g after a) a.keeps.grown r.kept.log (replica after a.goes.writer).kept.log r.leading.buffer (between_of marks s logs g after a) (traced_of s logs g a.goes.writer a.good) m x is
+        grown_marked marks logs (marks_after marks s logs g after a) a.keeps.grown r.kept.log (replica after a.goes.writer).kept.log r.leading.buffer (between_of marks s logs g after a) (records_traced s logs g a.goes.writer a.good) m x is
         (own_marks marks s logs g after a r.term (records r) r.leading.buffer refl is short app) app.first
     by_case (Promotes term some rest low whole fits is_blocks e) =
         let r : Replica = replica g a.goes.writer in
@@ -174,7 +162,7 @@ writer_marked marks s logs g after a = by_case a.goes.log
         let x : Extends r.kept.log (replica after a.goes.writer).kept.log = subst (Extends r.kept.log) (sym e) (extends_all r.kept.log some m.rises at.kept.ends m.whole (all_front some rest full)) in
         let is : records (replica after a.goes.writer) ≡ records r ++ flat some = ap (λ (l : Log). l.records) e ∙ records_of_blocks r.kept.log some in
         let app : Appended term (records r) (flat some) = front_appended g.config.pages term (records r) (flat some) (flat rest) low (promoted_front g.config.pages term (records r) some rest is_blocks) in
-        grown_marked marks logs (marks_after marks s logs g after a) a.keeps.grown r.kept.log (replica after a.goes.writer).kept.log (flat some) (between_of marks s logs g after a) (traced_of s logs g a.goes.writer a.good) m x is
+        grown_marked marks logs (marks_after marks s logs g after a) a.keeps.grown r.kept.log (replica after a.goes.writer).kept.log (flat some) (between_of marks s logs g after a) (records_traced s logs g a.goes.writer a.good) m x is
         (own_marks marks s logs g after a term (records r) (flat some) refl is (shorter whole) app) app.first
       where
         all_front : (xs ys : List (List Record)) → AllByRecursion (λ (b : List Record). 0 < length b) (xs ++ ys) → AllByRecursion (λ (b : List Record). 0 < length b) xs
@@ -193,7 +181,7 @@ writer_marked marks s logs g after a = by_case a.goes.log
         let prefix : IsPrefixOf (records (replica after a.goes.writer)) (logs term) = subst (λ (l : List Record). IsPrefixOf l (logs term)) (sym is) (part_after (records r) (logs term) b (subst (λ (t : ℕ). IsPrefixOf (records r) (logs t)) (sym (same ∙ at.term)) at.kept.prefix) part first) in
         let size : length (records (replica after a.goes.writer)) ≡ end r + length b.records = ap length is ∙ length-append (records r) b.records in
         let start : b.first - 1 ≡ end r = omega (arith, first) in
-        grown_marked marks logs (marks_after marks s logs g after a) a.keeps.grown r.kept.log (replica after a.goes.writer).kept.log b.records (between_of marks s logs g after a) (traced_of s logs g a.goes.writer a.good) m x is
+        grown_marked marks logs (marks_after marks s logs g after a) a.keeps.grown r.kept.log (replica after a.goes.writer).kept.log b.records (between_of marks s logs g after a) (records_traced s logs g a.goes.writer a.good) m x is
         (λ n low high.
         let there : n ≤ length (logs term) = omega (arith, high, prefix_length (records (replica after a.goes.writer)) (logs term) prefix) in
         sym (mark_longer (marks_after marks s logs g after a) (records (replica after a.goes.writer)) (logs term) n prefix high)
@@ -211,7 +199,7 @@ pub all_marked : (marks : Marks) (s : Setting) (logs : Logs) (g after : Group) (
 all_marked marks s logs g after a n =
     by_bool (n == a.goes.writer) (λ v. (n == a.goes.writer) ≡ v → Marked (marks_after marks s logs g after a) (replica after n).kept.log)
     (λ _ y. let same : a.goes.writer ≡ n = sym (eqb-true n a.goes.writer y) in subst (λ (i : ℕ). Marked (marks_after marks s logs g after a) (replica after i).kept.log) same (writer_marked marks s logs g after a))
-    (λ _ f. subst (λ (k : Kept). Marked (marks_after marks s logs g after a) k.log) (sym (a.goes.others n (eqb-false n a.goes.writer f))) (still_marked marks logs (marks_after marks s logs g after a) a.keeps.grown (replica g n).kept.log (between_of marks s logs g after a) (traced_of s logs g n a.good) (a.marked n)))
+    (λ _ f. subst (λ (k : Kept). Marked (marks_after marks s logs g after a) k.log) (sym (a.goes.others n (eqb-false n a.goes.writer f))) (still_marked marks logs (marks_after marks s logs g after a) a.keeps.grown (replica g n).kept.log (between_of marks s logs g after a) (records_traced s logs g n a.good) (a.marked n)))
     refl
 
 -- the first term stays
@@ -240,7 +228,7 @@ all_begin marks s logs g after a old n h =
 
 -- the last of the ends
 last_is : (low len : ℕ) (xs : List ℕ) → RisesFrom low xs → EndsIn low xs len → contains len (low ∷ xs) ≡ true → last_or (Some low) xs ≡ Some len
-last_is low len [] r e c = let same : len ≡ low = eqb-true len low (sym (or_false (len == low)) ∙ c) in ap Some (sym same)
+last_is low len [] r e c = let same : len ≡ low = eqb-true len low (sym (or-false (len == low)) ∙ c) in ap Some (sym same)
 last_is low len (x ∷ xs) r e c = last_is x len xs r.1 e.1 (sym (ap (λ b. b || contains len (x ∷ xs)) (apart len low (λ q. let h : x ≤ len = ends_le x len xs e.1 in omega (arith, q, h, r.0)))) ∙ c)
 
 -- a log in whole blocks

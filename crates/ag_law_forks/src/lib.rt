@@ -14,5 +14,6 @@ ghost use Rattle.ag_laws.specs.Good.{Good};
 pub fn forks_told_by_starts()
     ensures least { (a b : List Record) → fork a b ≤ fork_of_starts (term_starts a) (length a) (term_starts b) (length b) }
     ensures traced { (logs : Logs) (a b : List Record) → IsTraced logs a → IsTraced logs b → fork_of_starts (term_starts a) (length a) (term_starts b) (length b) ≡ fork a b }
-    ensures group { (s : Setting) (logs : Logs) (g : Group) (n m : ℕ) → Good s logs g → fork_of_starts (term_starts (records (replica g n))) (end (replica g n)) (term_starts (records (replica g m))) (end (replica g m)) ≡ fork (records (replica g n)) (records (replica g m)) }
+    ensures group { (s : Setting) (logs : Logs) (g : Group) (n m : ℕ) → Good s logs g
+        → fork_of_starts (term_starts (records (replica g n))) (end (replica g n)) (term_starts (records (replica g m))) (end (replica g m)) ≡ fork (records (replica g n)) (records (replica g m)) }
 {}

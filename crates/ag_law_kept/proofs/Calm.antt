@@ -37,9 +37,9 @@ use Rattle.ag_rules.specs.SpoilEvent.{spoil_part, unread_part, checks_of_damage,
 use Rattle.ag_rules.specs.AskEvent.{ask_part, checks_of_page_ask}
 use Rattle.ag_rules.specs.CutEvent.{cut_part}
 use Rattle.std.proofs.lemmas.Bool.{false≢true}
+use Rattle.ag_lists.proofs.Each.{all_append}
 use Rattle.ag_laws.proofs.Prefix.{prefix_refl}
 use Rattle.ag_laws.proofs.Plans.{Passes, unless_has, case_has}
-use Rattle.ag_laws.proofs.Lists.{all_append}
 use Rattle.ag_laws.proofs.Disks.{SameCore, core_refl, small_all, small_some, each_batches, notes_are_small, installs_are_small}
 use Rattle.ag_laws.proofs.Steps.{IsSmall, IsBatch}
 use Rattle.ag_law_kept.specs.Holds.{IsSaved}

@@ -1,21 +1,22 @@
 -- What a chain of safe failovers keeps: up to a Commit to keep, the logs of its terms are the same.
 use Rattle.std.specs.Prelude.{◌==◌, Option, Some, None, ◌&&◌, slice_get, nat_lt, nat_le}
 use Rattle.std.proofs.Common.{◌≡◌, ℕ, zero, suc, ◌+◌, ◌-◌, ◌<◌, ◌≤◌, max, List, [], ◌∷◌, ◌++◌, length, take, Bool, true, false, refl, sym, ap, ◌∙◌, subst, arith, length-take-le}
-use Rattle.std.specs.List.{AllByRecursion, filter, fold, flat_map, list_any, enumerate_from}
+use Rattle.std.specs.List.{AllByRecursion, filter, fold, list_any}
 use Rattle.std.proofs.lemmas.Bool.{false≢true, eqb-true, leb-true, leb-false, ltb-true, lt-ltb, eq-eqb, and_parts}
 use Rattle.ag_model.specs.declared.record.Record.{Record}
 use Rattle.ag_model.specs.declared.record.Record.TheVariants.{Put, Del, Commit, Abort, Trim, Term}
 use Rattle.ag_model.specs.declared.config.TermStart.{TermStart}
-use Rattle.ag_model.specs.Starts.{start_by}
 use Rattle.ag_rules.specs.Group.{Group, replica}
 use Rattle.ag_rules.specs.Run.{Moment}
 use Rattle.ag_rules.specs.KeptLaw.{Confirmed, confirmed_in, is_safe_into, to_keep, is_same_commit, last_confirmed}
+use Rattle.ag_lists.proofs.Tests.{by_bool, if_has, and_three}
+use Rattle.ag_lists.proofs.Each.{all_map, all_append, all_both}
+use Rattle.ag_lists.proofs.Filters.{all_passing}
+use Rattle.ag_ends.proofs.Records.{same_record}
+use Rattle.ag_ends.specs.Starts.{starts_after}
 use Rattle.ag_laws.specs.Prefix.{IsPrefixOf}
 use Rattle.ag_laws.specs.Logs.{Logs}
 use Rattle.ag_laws.proofs.Prefix.{prefix_refl, prefix_length}
-use Rattle.ag_laws.proofs.Plans.{by_bool, if_has}
-use Rattle.ag_laws.proofs.Lists.{all_map, all_append}
-use Rattle.ag_law_forks.proofs.Forks.{same_record}
 use Rattle.ag_law_kept.specs.Known.{IsKnown}
 use Rattle.ag_law_kept.specs.Past.{Past}
 use Rattle.ag_law_kept.specs.Holds.{HasBegun, IsTaken, IsConfirmed, Holds}
@@ -28,15 +29,6 @@ Found xs c = (i : ℕ) × (slice_get xs i ≡ Some c)
 all_found : (xs : List Confirmed) → AllByRecursion (Found xs) xs
 all_found [] = tt
 all_found (x ∷ xs) = ((0, refl), all_map (Found xs) (Found (x ∷ xs)) (λ c f. (suc f.0, f.1)) xs (all_found xs))
-
--- what is so of those that pass
-all_passing : {X : Type 0} (P Q : X → Type 0) (q : X → Bool) → ((x : X) → P x → q x ≡ true → Q x) → (xs : List X) → AllByRecursion P xs → AllByRecursion Q (filter q xs)
-all_passing P Q q f [] p = tt
-all_passing P Q q f (x ∷ xs) p = if_has (AllByRecursion Q) (q x) (x ∷ filter q xs) (filter q xs) (λ e. (f x p.0 e, all_passing P Q q f xs p.1)) (λ _. all_passing P Q q f xs p.1)
-
-both : {X : Type 0} (P Q : X → Type 0) (xs : List X) → AllByRecursion P xs → AllByRecursion Q xs → AllByRecursion (λ x. P x × Q x) xs
-both P Q [] p q = tt
-both P Q (x ∷ xs) p q = ((p.0, q.0), both P Q xs p.1 q.1)
 
 -- what the log of term t has of a Commit
 pub record KeptTo (logs : Logs) (t : ℕ) (c : Confirmed) : Type 0 where
@@ -118,7 +110,7 @@ module _ (past : Past) (cs : List Confirmed) (ms : List Moment) (logs : Logs) (g
       subst (λ (t : ℕ). InChain past logs g cs t c) one (old_on (c.term + 1 + k) (low_term (c.term + 1 + k + 1) is_safe) is_safe c (chain_from c p k (λ t high up. all t high (omega (arith, up)))))
 
   pub all_chained : AllByRecursion (λ c. Found cs c × IsConfirmed past logs g.register c) cs
-  all_chained = both (Found cs) (IsConfirmed past logs g.register) cs (all_found cs) h.commits
+  all_chained = all_both (Found cs) (IsConfirmed past logs g.register) cs (all_found cs) h.commits
 
 module _ (past : Past) (ms : List Moment) (logs : Logs) (g : Group) (h : Holds past (confirmed_in ms) logs g) (safe : (t : ℕ) → past.safe t ≡ list_any (is_safe_into t) ms) (ahead : (t : ℕ) → g.register.term < t → past.safe t ≡ false) where
   pub chain : (t : ℕ) → AllByRecursion (InChain past logs g (confirmed_in ms) t) (to_keep ms t)
@@ -181,27 +173,21 @@ pub last_in : (ms : List Moment) (t : ℕ) (c : Confirmed) (r : Record) → Foun
 last_in ms t c r found below commit =
     let q : Confirmed → Bool = λ d. nat_lt d.term t && ((d.lsn == c.lsn) && is_same_commit d.commit c.commit) in
     record {
-      low = max_high q 0 found.0 (confirmed_in ms) c found.1 (all_true (nat_lt c.term t) (c.lsn == c.lsn) (is_same_commit c.commit c.commit) (lt-ltb c.term t below) (eq-eqb c.lsn c.lsn refl) (same_commit c.commit r commit));
+      low = max_high q 0 found.0 (confirmed_in ms) c found.1 (and_three (nat_lt c.term t) (c.lsn == c.lsn) (is_same_commit c.commit c.commit) (lt-ltb c.term t below) (eq-eqb c.lsn c.lsn refl) (same_commit c.commit r commit));
       high = max_low q t 0 (confirmed_in ms) (omega (arith, below)) (λ d e. ltb-true d.term t (and_parts _ _ e).0);
     }
-  where
-    all_true : (x y z : Bool) → x ≡ true → y ≡ true → z ≡ true → (x && (y && z)) ≡ true
-    all_true true true true p q r2 = refl
-    all_true true true false p q r2 = absurd (false≢true r2)
-    all_true true false z p q r2 = absurd (false≢true q)
-    all_true false y z p q r2 = absurd (false≢true p)
 
 -- a Commit that was confirmed is a record
 pub commit_some : (logs : Logs) (c : Confirmed) → 0 < c.lsn → c.lsn ≤ length (logs c.term) → slice_get (logs c.term) (c.lsn - 1) ≡ c.commit → (r : Record) × (c.commit ≡ Some r)
 commit_some logs c some within is = let g : (x : Record) × (slice_get (logs c.term) (c.lsn - 1) ≡ Some x) = get_some (c.lsn - 1) (logs c.term) (omega (arith, some, within)) in (g.0, sym is ∙ g.1)
 
-later : (k : ℕ) (x : Record) (log : List Record) → AllByRecursion (λ (s : TermStart). (k + 1 < s.lsn) × (slice_get log (s.lsn - (k + 1 + 1)) ≡ Some (Term s.term))) (flat_map (λ r. start_by r.0 r.1) (enumerate_from (k + 1 + 1) log)) → AllByRecursion (λ (s : TermStart). (k < s.lsn) × (slice_get (x ∷ log) (s.lsn - (k + 1)) ≡ Some (Term s.term))) (flat_map (λ r. start_by r.0 r.1) (enumerate_from (k + 1 + 1) log))
+later : (k : ℕ) (x : Record) (log : List Record) → AllByRecursion (λ (s : TermStart). (k + 1 < s.lsn) × (slice_get log (s.lsn - (k + 1 + 1)) ≡ Some (Term s.term))) (starts_after (k + 1) log) → AllByRecursion (λ (s : TermStart). (k < s.lsn) × (slice_get (x ∷ log) (s.lsn - (k + 1)) ≡ Some (Term s.term))) (starts_after (k + 1) log)
 later k x log all =
     all_map (λ (s : TermStart). (k + 1 < s.lsn) × (slice_get log (s.lsn - (k + 1 + 1)) ≡ Some (Term s.term))) (λ (s : TermStart). (k < s.lsn) × (slice_get (x ∷ log) (s.lsn - (k + 1)) ≡ Some (Term s.term)))
-    (λ s p. (omega (arith, p.0), (let one : s.lsn - (k + 1) ≡ suc (s.lsn - (k + 1 + 1)) = omega (arith, p.0) in ap (λ i. slice_get (x ∷ log) i) one ∙ p.1))) (flat_map (λ r. start_by r.0 r.1) (enumerate_from (k + 1 + 1) log)) all
+    (λ s p. (omega (arith, p.0), (let one : s.lsn - (k + 1) ≡ suc (s.lsn - (k + 1 + 1)) = omega (arith, p.0) in ap (λ i. slice_get (x ∷ log) i) one ∙ p.1))) (starts_after (k + 1) log) all
 
 -- where the starts of a log are
-pub starts_are : (k : ℕ) (log : List Record) → AllByRecursion (λ (s : TermStart). (k < s.lsn) × (slice_get log (s.lsn - (k + 1)) ≡ Some (Term s.term))) (flat_map (λ r. start_by r.0 r.1) (enumerate_from (k + 1) log))
+pub starts_are : (k : ℕ) (log : List Record) → AllByRecursion (λ (s : TermStart). (k < s.lsn) × (slice_get log (s.lsn - (k + 1)) ≡ Some (Term s.term))) (starts_after k log)
 starts_are k [] = tt
 starts_are k (Term t ∷ log) = ((omega arith, (let zero_is : k + 1 - (k + 1) ≡ 0 = omega arith in ap (λ i. slice_get (Term t ∷ log) i) zero_is)), later k (Term t) log (starts_are (k + 1) log))
 starts_are k (Put t key v ∷ log) = later k (Put t key v) log (starts_are (k + 1) log)

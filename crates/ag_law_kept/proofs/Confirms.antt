@@ -10,9 +10,10 @@ use Rattle.ag_rules.specs.Group.{Group, replica, has}
 use Rattle.ag_rules.specs.Plan.{here, at_once}
 use Rattle.ag_rules.specs.AckEvent.{ack_part, checks_of_ack, late, late_members, is_late, is_local, confirmed}
 use Rattle.ag_rules.specs.KeptLaw.{Confirmed}
+use Rattle.ag_lists.proofs.Tests.{by_bool, if_has}
+use Rattle.ag_lists.proofs.Each.{all_append}
 use Rattle.ag_laws.specs.Logs.{Logs}
-use Rattle.ag_laws.proofs.Plans.{by_bool, if_has, unless_has}
-use Rattle.ag_laws.proofs.Lists.{all_append}
+use Rattle.ag_laws.proofs.Plans.{unless_has}
 use Rattle.ag_law_kept.specs.Local.{all_confirmed_by}
 use Rattle.ag_law_kept.specs.Known.{IsKnown}
 use Rattle.ag_law_kept.specs.Past.{Past}

@@ -13,11 +13,12 @@ use Rattle.ag_rules.specs.Plan.{Part, here, at_once, at_node, refused}
 use Rattle.ag_rules.specs.Checks.{is_down}
 use Rattle.ag_rules.specs.DeliverEvent.{plan_of_deliver, plan_of_message, arrives, message_part, taken, leaves, plan_of_lose, plan_of_loss}
 use Rattle.ag_rules.specs.KeptLaw.{Confirmed}
+use Rattle.ag_lists.proofs.Tests.{if_has}
+use Rattle.ag_lists.proofs.Each.{all_get}
 use Rattle.ag_laws.specs.Logs.{Logs, Setting}
 use Rattle.ag_laws.specs.Fits.{BodyFits, MessageFits}
 use Rattle.ag_laws.specs.Good.{Good}
-use Rattle.ag_laws.proofs.Plans.{if_has, unless_has}
-use Rattle.ag_laws.proofs.Lists.{all_get}
+use Rattle.ag_laws.proofs.Plans.{unless_has}
 use Rattle.ag_law_kept.specs.Past.{Past, Meets}
 use Rattle.ag_law_kept.specs.Tells.{BodyTells, MessageTells}
 use Rattle.ag_law_kept.specs.Holds.{Holds}

@@ -2,7 +2,7 @@
 use Rattle.std.specs.Prelude.{if◌then◌else◌, ◌==◌, not, ◌&&◌}
 use Rattle.std.proofs.Common.{◌≡◌, ◌≢◌, ℕ, zero, suc, ◌+◌, ◌<◌, ◌≤◌, List, [], ◌∷◌, length, Bool, true, false, refl, sym, ap, ◌∙◌, arith}
 use Rattle.std.specs.List.{filter, range_with_len}
-use Rattle.std.proofs.lemmas.Bool.{false≢true, not-false, and_parts, or_parts, eqb-true, eqb-false}
+use Rattle.std.proofs.lemmas.Bool.{false≢true, not-false, and_parts, or_parts, eqb-true, eqb-false, not-true}
 use Rattle.ag_model.specs.declared.config.Register.{Register}
 use Rattle.ag_model.specs.declared.event.Suffix.{Suffix}
 use Rattle.ag_model.specs.declared.answer.Refusal.TheVariants.{Nothing, NoTarget}
@@ -12,17 +12,16 @@ use Rattle.ag_rules.specs.Cut.{cut}
 use Rattle.ag_rules.specs.Next.{apart, at_session}
 use Rattle.ag_rules.specs.Failover.{moved, moved_by_force, plan_of_planned, plan_of_force, plan_of_auto, plan_to_first, targets, is_target, has_mode_auto, primary_serves, checks_of_planned, checks_of_force}
 use Rattle.ag_rules.specs.KeptLaw.{Confirmed}
+use Rattle.ag_lists.proofs.Tests.{by_bool, if_has}
 use Rattle.ag_laws.specs.Logs.{Logs, Setting}
 use Rattle.ag_laws.specs.Good.{Good}
 use Rattle.ag_laws.specs.Keeps.{Keeps}
-use Rattle.ag_laws.proofs.Plans.{by_bool, if_has}
-use Rattle.ag_laws.proofs.Cuts.{cut_has}
+use Rattle.ag_laws.proofs.Cuts.{cut_has, stop_has, fail_has}
 use Rattle.ag_law_kept.specs.Past.{Past}
 use Rattle.ag_law_kept.specs.Holds.{Holds}
 use Rattle.ag_law_kept.proofs.World.{IsWorld, AreGrown, world}
 use Rattle.ag_law_kept.proofs.Moved.{world_like}
 use Rattle.ag_law_kept.proofs.Goes.{fit_of, Outcome, leader_on, goes_holds, fallen_holds, disk_core, DiskGoes, register_posted}
-use Rattle.ag_law_kept.proofs.Stops.{stop_has, fail_has}
 use Rattle.ag_law_kept.proofs.Calm.{PartCalm, same_calm}
 use Rattle.ag_law_kept.proofs.Leads.{PartFits, cut_fits, cut_calm}
 use Rattle.ag_law_kept.proofs.Nexts.{Remembers, Next, next_same, cut_register, failover_next}
@@ -92,11 +91,7 @@ module _ (past : Past) (cs : List Confirmed) (s : Setting) (logs : Logs) (g : Gr
       let b : ((replica g n).up ≡ true) × (not (replica g n).cut_off ≡ true) = and_parts _ _ a.0 in
       let c : (has_mode_auto g n ≡ true) × (has g.register.synced n ≡ true) = and_parts _ _ a.1 in
       failover_next past cs s logs g n (moved g.register n) [] suffix good r h (omega (arith, p.0, (world past s logs g r.meets good).count)) refl refl refl
-      (λ _. record { apart = λ e. false≢true (sym serves ∙ ap (λ (m : ℕ). (replica g m).up && not (replica g m).cut_off) (sym e) ∙ a.0); back = not_true (replica g n).cut_off b.1; normal = (h.members n c.1).normal })
-    where
-      not_true : (b : Bool) → not b ≡ true → b ≡ false
-      not_true true e = absurd (false≢true e)
-      not_true false e = refl
+      (λ _. record { apart = λ e. false≢true (sym serves ∙ ap (λ (m : ℕ). (replica g m).up && not (replica g m).cut_off) (sym e) ∙ a.0); back = not-true (replica g n).cut_off b.1; normal = (h.members n c.1).normal })
 
   pub auto_next : (suffix : Suffix) → Comes2 suffix (plan_of_auto g)
   unfolding plan_of_auto

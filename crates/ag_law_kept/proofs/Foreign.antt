@@ -6,7 +6,7 @@ use Rattle.std.specs.List.{filter}
 use Rattle.std.proofs.lemmas.Bool.{false≢true, eqb-true, eq-eqb}
 use Rattle.std.proofs.lemmas.Map.Views.{any-filter_same}
 use Rattle.ag_model.specs.Rows.{contains}
-use Rattle.ag_laws.proofs.Plans.{by_bool, if_has}
+use Rattle.ag_lists.proofs.Tests.{by_bool, if_has}
 
 -- a page that passes
 pub record Passing (q : ℕ → Bool) (xs : List ℕ) : Type 0 where

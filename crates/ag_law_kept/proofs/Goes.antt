@@ -17,15 +17,16 @@ use Rattle.ag_rules.specs.Plan.{Part, Posting, posted, all_written, at_node}
 use Rattle.ag_rules.specs.Cut.{cut}
 use Rattle.ag_rules.specs.ResumeMessage.{waits_for}
 use Rattle.ag_rules.specs.KeptLaw.{Confirmed}
+use Rattle.ag_lists.proofs.Tests.{by_bool, if_has}
+use Rattle.ag_lists.proofs.Places.{at_set}
+use Rattle.ag_lists.proofs.Each.{all_map}
 use Rattle.ag_laws.specs.Prefix.{IsPrefixOf}
 use Rattle.ag_laws.specs.Logs.{Logs}
 use Rattle.ag_laws.proofs.Prefix.{prefix_trans, prefix_length}
-use Rattle.ag_laws.proofs.Plans.{by_bool, if_has}
-use Rattle.ag_laws.proofs.Lists.{all_map, at_set}
-use Rattle.ag_laws.proofs.Groups.{replicas_posted}
+use Rattle.ag_laws.proofs.Groups.{replicas_posted, config_posted}
 use Rattle.ag_laws.proofs.Disks.{SameCore}
 use Rattle.ag_laws.proofs.Steps.{IsBatch}
-use Rattle.ag_laws.proofs.Cuts.{cut_has}
+use Rattle.ag_laws.proofs.Cuts.{cut_has, stop_has, fail_has}
 use Rattle.ag_law_kept.specs.Known.{IsKnown, AtMost}
 use Rattle.ag_law_kept.specs.Past.{Past, tell}
 use Rattle.ag_law_kept.specs.Tells.{BodyTells, MessageTells}
@@ -36,7 +37,6 @@ use Rattle.ag_law_kept.proofs.Longer.{Waits, messages_longer}
 use Rattle.ag_law_kept.proofs.Moved.{NewReplica, moved, world_like, fresh_of}
 use Rattle.ag_law_kept.proofs.Posts.{holds_posted, Sendable}
 use Rattle.ag_law_kept.proofs.Told.{told_holds}
-use Rattle.ag_law_kept.proofs.Stops.{stop_has, fail_has}
 
 -- a disk that an event may leave: its log and its saved term go on, and it doesn't begin to revert
 pub record DiskGoes (pages : ℕ) (old k : Kept) : Type 0 where
@@ -98,10 +98,6 @@ pub record LeadsOn (r r2 : Replica) : Type 0 where
 pub register_posted : (n : ℕ) (ps : List Posting) (g : Group) → (posted n ps g).register ≡ g.register
 register_posted n [] g = refl
 register_posted n (p ∷ ps) g = register_posted n ps (with_link g n p.to (link g n p.to ++ p.message ∷ []))
-
-pub config_posted : (n : ℕ) (ps : List Posting) (g : Group) → (posted n ps g).config ≡ g.config
-config_posted n [] g = refl
-config_posted n (p ∷ ps) g = config_posted n ps (with_link g n p.to (link g n p.to ++ p.message ∷ []))
 
 -- a message that tells nothing of a log
 abbrev pub IsQuietBody : Body → Type 0

@@ -16,10 +16,11 @@ use Rattle.ag_rules.specs.Cut.{cut, stopped, failed, all_writes, stopped_disk, d
 use Rattle.std.specs.List.{sum_by}
 use Rattle.ag_rules.specs.HelloMessage.{hello_part, checks_of_hello, fork_with, greeted, greets, resume_message}
 use Rattle.ag_rules.specs.KeptLaw.{Confirmed}
+use Rattle.ag_lists.proofs.Tests.{by_bool, if_has}
 use Rattle.ag_laws.specs.Prefix.{IsPrefixOf}
 use Rattle.ag_laws.specs.Logs.{Logs, IsTraced}
 use Rattle.ag_laws.proofs.Prefix.{prefix_refl, prefix_length, take_prefix}
-use Rattle.ag_laws.proofs.Plans.{by_bool, if_has, unless_has}
+use Rattle.ag_laws.proofs.Plans.{unless_has}
 use Rattle.ag_laws.proofs.Starts.{Agree, agree}
 use Rattle.ag_laws.proofs.BlockKeeps.{same_term}
 use Rattle.ag_law_forks.proofs.Forks.{told_most}
@@ -27,7 +28,8 @@ use Rattle.ag_law_kept.specs.Known.{IsKnown, AtMost}
 use Rattle.ag_law_kept.specs.Past.{Past}
 use Rattle.ag_law_kept.specs.Tells.{HelloTells, ResumeTells}
 use Rattle.ag_law_kept.specs.Holds.{IsLeader, Holds}
-use Rattle.ag_law_kept.proofs.Known.{take_is_prefix, same_beginning, most_longer}
+use Rattle.ag_law_kept.proofs.Known.{same_beginning, most_longer}
+use Rattle.ag_laws.proofs.Grow.{take_is_prefix}
 use Rattle.ag_law_kept.proofs.World.{AreTraced, HasOwn, Acts, IsWorld, AreGrown, last_rises}
 use Rattle.ag_law_kept.proofs.Longer.{leader_longer}
 use Rattle.ag_law_kept.proofs.Goes.{fit_of, Outcome, new_replica, tells_holds, first_world, first_same}

@@ -1,5 +1,5 @@
 -- Events that write blocks or the master, or send: `harden`, `flush`, `finish`, `report`, `send`, `crash`, and messages with blocks, pages and asks.
-use Rattle.std.proofs.Common.{◌≡◌, ℕ, zero, suc, ◌+◌, ◌≤◌, List, [], ◌∷◌, ◌++◌, length, map, take, Bool, true, false, inl, inr, refl, sym, ap, ◌∙◌, subst, arith, take_all, length-append}
+use Rattle.std.proofs.Common.{◌≡◌, ℕ, zero, suc, ◌+◌, ◌≤◌, List, [], ◌∷◌, ◌++◌, length, take, Bool, true, false, inl, inr, refl, sym, ap, ◌∙◌, subst, arith, take_all, length-append}
 use Rattle.std.specs.Prelude.{Option, Some, None, ◌==◌, ◌||◌, not}
 use Rattle.std.specs.List.{AllByRecursion}
 use Rattle.std.proofs.lemmas.Bool.{false≢true, not-false, or_parts, eqb-true, eqb-false}
@@ -9,13 +9,13 @@ use Rattle.ag_model.specs.declared.answer.Answer.TheVariants.{Installed}
 use Rattle.ag_model.specs.declared.answer.Refusal.TheVariants.{Nothing}
 use Rattle.ag_model.specs.declared.message.Block.{Block}
 use Rattle.ag_model.specs.declared.message.Body.TheVariants.{Ack}
-use Rattle.ag_rules.specs.Replica.{Replica, Kept, Master, Peer, records, end, low, peer, no_peer, takes_foreign, is_reverting, applied_of, page, with_page, is_bad, is_wanted}
-use Rattle.ag_rules.specs.Plan.{Here, Write, Batch, Block_write, Master_write, written, batch_written, all_written, each_synced, writing}
+use Rattle.ag_rules.specs.Replica.{Replica, Kept, Master, Peer, records, end, low, peer, no_peer, is_reverting, applied_of, page, with_page, is_bad, is_wanted}
+use Rattle.ag_rules.specs.Plan.{Here, Write, Block_write, Master_write, written, all_written, each_synced, writing}
 use Rattle.ag_rules.specs.Checks.{is_down, of_other_term, link_is_full}
 use Rattle.ag_rules.specs.Messages.{ack_to}
-use Rattle.ag_rules.specs.Redo.{may_install, notes_of, installs_of, install_of, installed, touched_by, touched_up_to, due_pages}
+use Rattle.ag_rules.specs.Redo.{notes_of, installs_of, install_of, installed, touched_by, touched_up_to, due_pages}
 use Rattle.ag_rules.specs.HardenEvent.{harden_part, checks_of_harden, hardened_one, harden_writes}
-use Rattle.ag_rules.specs.FlushEvent.{flush_part, checks_of_flush, by_eights, page_batch, pages_to_flush, flushed_master, flushes}
+use Rattle.ag_rules.specs.FlushEvent.{flush_part, checks_of_flush, by_eights, pages_to_flush, flushed_master, flushes}
 use Rattle.ag_rules.specs.FinishEvent.{finish_part, checks_of_finish, finished, finished_master, finish_writes}
 use Rattle.ag_rules.specs.ReportEvent.{report_part, checks_of_report}
 use Rattle.ag_rules.specs.SendEvent.{send_part, checks_of_send, sends, with_sent, block_to_send}
@@ -23,15 +23,18 @@ use Rattle.ag_rules.specs.CrashEvent.{crash_part}
 use Rattle.ag_rules.specs.ResumeMessage.{waits_for}
 use Rattle.ag_rules.specs.BlockMessage.{block_part, cases_of_block, acks}
 use Rattle.ag_rules.specs.PageAskMessage.{page_ask_part}
-use Rattle.ag_rules.specs.PageGiveMessage.{page_give_part, comes, installs, holds, with_come, is_last, initialising}
+use Rattle.ag_rules.specs.PageGiveMessage.{page_give_part, comes, with_come, is_last, initialising}
 use Rattle.ag_rules.specs.DeliverEvent.{no_page_part}
+use Rattle.ag_lists.proofs.Tests.{if_has}
+use Rattle.ag_lists.proofs.Places.{at_set}
+use Rattle.ag_lists.proofs.Each.{all_append}
 use Rattle.ag_laws.specs.Prefix.{IsPrefixOf}
 use Rattle.ag_laws.proofs.Prefix.{prefix_refl}
-use Rattle.ag_laws.proofs.Plans.{if_has, case_has, question_has, arrival_has}
-use Rattle.ag_laws.proofs.Lists.{at_set, all_append}
-use Rattle.ag_laws.proofs.Disks.{SameCore, core_refl, core_trans, small_core, small_all, small_some, each_batches, notes_are_small, install_is_small, installs_are_small}
+use Rattle.ag_laws.proofs.Plans.{case_has, question_has, arrival_has}
+use Rattle.ag_laws.proofs.Disks.{SameCore, core_refl, small_all, small_some, each_batches, notes_are_small, install_is_small, installs_are_small}
 use Rattle.ag_laws.proofs.Blocks.{small_then, small_then_all}
-use Rattle.ag_laws.proofs.Steps.{IsSmall, IsBatch}
+use Rattle.ag_laws.proofs.Steps.{IsSmall}
+use Rattle.ag_laws.proofs.Flushed.{flush_batches, flush_some, flush_all}
 use Rattle.ag_law_kept.specs.Holds.{IsSaved}
 use Rattle.ag_law_kept.proofs.Goes.{DiskGoes, disk_core, ReplicaGoes, Fit, fallen_goes, IsAckOf, IsOut}
 use Rattle.ag_law_kept.proofs.Calm.{PartCalm, disk_refl, still, leads_still, quiet_calm, same_calm, checked_calm, goes_core, small_calm, still_calm}
@@ -103,36 +106,6 @@ harden_calm h r f free =
       };
       leads = λ e. record { leads = e; term = refl; cut = λ c. c; synced = refl; known = λ m. refl; free = λ q. q; normal = λ q. q };
     })
-
--- the writes of pages are small
-pages_small : (ps : List ℕ) → AllByRecursion IsSmall (page_batch ps)
-pages_small [] = tt
-pages_small (p ∷ ps) = (tt, pages_small ps)
-
-small_batch : (b : Batch) → AllByRecursion IsSmall b → IsBatch b
-small_batch [] h = tt
-small_batch (w ∷ []) h = tt
-small_batch (w ∷ x ∷ ws) h = h
-
-batch_core : (k : Kept) (b : Batch) → AllByRecursion IsSmall b → SameCore k (batch_written k b)
-batch_core k [] h = core_refl k k refl refl
-batch_core k (w ∷ ws) h = core_trans k (written k w) _ (small_core k w h.0) (batch_core (written k w) ws h.1)
-
-flush_batches : (ps : List (List ℕ)) (last : Batch) → IsBatch last → AllByRecursion IsBatch (map page_batch ps ++ last ∷ [])
-flush_batches [] last h = (h, tt)
-flush_batches (p ∷ ps) last h = (small_batch (page_batch p) (pages_small p), flush_batches ps last h)
-
--- what holds of the same log and master, and of the new master, holds after some batches, and after all
-flush_some : (P : Kept → Type 0) (k k2 : Kept) (m : Master) (log_end : ℕ) (ps : List (List ℕ)) (j : ℕ) → SameCore k k2 → ((x : Kept) → SameCore k x → P x) → ((x : Kept) → SameCore k x → P (written x (Master_write m log_end))) → P (all_written k2 (take j (map page_batch ps ++ (Master_write m log_end ∷ []) ∷ [])))
-flush_some P k k2 m log_end [] zero c old new = old k2 c
-flush_some P k k2 m log_end [] (suc zero) c old new = new k2 c
-flush_some P k k2 m log_end [] (suc (suc j)) c old new = new k2 c
-flush_some P k k2 m log_end (b ∷ ps) zero c old new = old k2 c
-flush_some P k k2 m log_end (b ∷ ps) (suc j) c old new = flush_some P k (batch_written k2 (page_batch b)) m log_end ps j (core_trans k k2 _ c (batch_core k2 (page_batch b) (pages_small b))) old new
-
-flush_all : (P : Kept → Type 0) (k k2 : Kept) (m : Master) (log_end : ℕ) (ps : List (List ℕ)) → SameCore k k2 → ((x : Kept) → SameCore k x → P (written x (Master_write m log_end))) → P (all_written k2 (map page_batch ps ++ (Master_write m log_end ∷ []) ∷ []))
-flush_all P k k2 m log_end [] c new = new k2 c
-flush_all P k k2 m log_end (b ∷ ps) c new = flush_all P k (batch_written k2 (page_batch b)) m log_end ps (core_trans k k2 _ c (batch_core k2 (page_batch b) (pages_small b))) new
 
 pub flush_calm : (h : Here) (r : Replica) → Fit h.pages r → PartCalm h.pages r (flush_part h r)
 unfolding flush_part

@@ -17,11 +17,13 @@ use Rattle.ag_rules.specs.Cut.{cut}
 use Rattle.ag_rules.specs.JoinEvent.{join_part, checks_of_join, joining, hello_message}
 use Rattle.ag_rules.specs.ResumeMessage.{waits_for}
 use Rattle.ag_rules.specs.KeptLaw.{Confirmed}
+use Rattle.ag_lists.proofs.Tests.{by_bool, if_has}
+use Rattle.ag_lists.proofs.Places.{at_set, at_set_there}
+use Rattle.ag_lists.proofs.Each.{all_map2}
 use Rattle.ag_laws.specs.Logs.{Logs, Setting}
 use Rattle.ag_laws.specs.Fits.{IsGiven, BodyFits, MessageFits}
 use Rattle.ag_laws.proofs.Prefix.{prefix_refl}
-use Rattle.ag_laws.proofs.Plans.{by_bool, if_has, unless_has}
-use Rattle.ag_laws.proofs.Lists.{at_set, at_set_there}
+use Rattle.ag_laws.proofs.Plans.{unless_has}
 use Rattle.ag_laws.proofs.Groups.{replicas_posted}
 use Rattle.ag_laws.proofs.Grow.{traced_prefix}
 use Rattle.ag_law_kept.specs.Known.{Covers}
@@ -38,10 +40,6 @@ use Rattle.ag_law_kept.proofs.Goes.{Fit, fit_of, Outcome, first_world, first_sam
 use Rattle.ag_law_kept.proofs.Calm.{same_calm}
 use Rattle.ag_law_kept.proofs.Leads.{cut_calm}
 use Rattle.ag_law_kept.proofs.Greets.{cut_quiet}
-
-pub all_map2 : {X : Type 0} (P Q R : X → Type 0) → ((x : X) → P x → Q x → R x) → (xs : List X) → AllByRecursion P xs → AllByRecursion Q xs → AllByRecursion R xs
-all_map2 P Q R f [] p q = tt
-all_map2 P Q R f (x ∷ xs) p q = (f x p.0 q.0, all_map2 P Q R f xs p.1 q.1)
 
 -- a world reads the targets of what is remembered alone
 pub world_past : (past past2 : Past) (logs : Logs) (g : Group) → ((t : ℕ) → past2.target t ≡ past.target t) → IsWorld past logs g → IsWorld past2 logs g

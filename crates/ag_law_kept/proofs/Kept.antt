@@ -14,10 +14,11 @@ use Rattle.ag_rules.specs.Run.{Moment, run}
 use Rattle.ag_rules.specs.Script.{IsScript}
 use Rattle.ag_rules.specs.TermLog.{term_log}
 use Rattle.ag_rules.specs.KeptLaw.{confirmed_in, to_keep, last_confirmed, starts_at, IsKept, KeptIn, KeptLaw}
+use Rattle.ag_lists.proofs.Tests.{by_bool}
+use Rattle.ag_lists.proofs.Each.{all_map}
 use Rattle.ag_laws.specs.Logs.{Logs}
-use Rattle.ag_laws.proofs.Plans.{by_bool}
-use Rattle.ag_laws.proofs.Lists.{all_map}
-use Rattle.ag_law_kept.proofs.Known.{get_prefix, get_within, take_is_prefix}
+use Rattle.ag_law_kept.proofs.Known.{get_prefix, get_within}
+use Rattle.ag_laws.proofs.Grow.{take_is_prefix}
 use Rattle.ag_law_kept.proofs.Logged.{term_log_is}
 use Rattle.ag_law_kept.proofs.Runs.{Reached, Ended, opened, run_on}
 use Rattle.ag_law_kept.proofs.Syncs.{only_sync}

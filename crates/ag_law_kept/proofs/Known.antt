@@ -1,18 +1,16 @@
 -- What is known, and what may be known at most, where logs go on.
-use Rattle.std.proofs.Common.{◌≡◌, ℕ, zero, suc, ◌+◌, ◌<◌, ◌≤◌, List, [], ◌∷◌, ◌++◌, length, take, drop, inl, inr, ◌⊎◌, refl, sym, ap, ◌∙◌, subst, arith, take-append-drop, length-take-le, take-take, take_all}
+use Rattle.std.proofs.Common.{◌≡◌, ℕ, zero, suc, ◌+◌, ◌<◌, ◌≤◌, List, [], ◌∷◌, ◌++◌, length, take, inl, inr, ◌⊎◌, refl, sym, ap, ◌∙◌, subst, arith, length-take-le, take-take, take_all}
 use Rattle.std.specs.Prelude.{Some, slice_get}
+use Rattle.std.specs.List.{fold}
 use Rattle.ag_model.specs.declared.record.Record.{Record}
 use Rattle.ag_model.specs.declared.record.Record.TheVariants.{Put, Del, Commit, Abort, Trim, Term}
 use Rattle.ag_model.specs.declared.config.TermStart.{TermStart}
-use Rattle.ag_model.specs.Starts.{start_by, last_term}
-use Rattle.std.specs.List.{flat_map, fold, enumerate_from}
+use Rattle.ag_model.specs.Starts.{last_term}
+use Rattle.ag_ends.specs.Starts.{starts_after}
 use Rattle.ag_laws.specs.Prefix.{IsPrefixOf}
 use Rattle.ag_laws.proofs.Prefix.{prefix_refl, prefix_trans, prefix_length, take_prefix}
-use Rattle.ag_laws.proofs.Grow.{last_begun}
+use Rattle.ag_laws.proofs.Grow.{last_begun, take_is_prefix}
 use Rattle.ag_law_kept.specs.Known.{IsKnown, AtMost, Covers}
-
-pub take_is_prefix : (n : ℕ) (log : List Record) → IsPrefixOf (take n log) log
-take_is_prefix n log = (drop n log, take-append-drop n log)
 
 pub take_of_prefix : (n : ℕ) (a b : List Record) → IsPrefixOf a b → IsPrefixOf (take n a) b
 take_of_prefix n a b p = prefix_trans (take n a) a b (take_is_prefix n a) p
@@ -93,7 +91,7 @@ last_at_term i t log e = ap (λ (l : List Record). last_term l) (split i log e) 
     split (suc i) (x ∷ log) e = let one : suc i + 1 ≡ suc (i + 1) = omega arith in ap (λ k. take k (x ∷ log)) one ∙ ap (λ l. x ∷ l) (split i log e)
 
 -- the term that some records leave is the one before them, or one of theirs
-last_found : (k d t : ℕ) (log : List Record) → fold (λ last (s : TermStart). s.term) d (flat_map (λ r. start_by r.0 r.1) (enumerate_from k log)) ≡ t → (d ≡ t) ⊎ ((i : ℕ) × (slice_get log i ≡ Some (Term t)))
+last_found : (k d t : ℕ) (log : List Record) → fold (λ last (s : TermStart). s.term) d (starts_after k log) ≡ t → (d ≡ t) ⊎ ((i : ℕ) × (slice_get log i ≡ Some (Term t)))
 last_found k d t [] e = inl e
 last_found k d t (Term u ∷ log) e = elim (last_found (k + 1) u t log e) [ inl same ↦ inr (0, ap (λ x. Some (Term x)) same) | inr r ↦ inr (suc r.0, r.1) ]
 last_found k d t (Put u key v ∷ log) e = elim (last_found (k + 1) d t log e) [ inl same ↦ inl same | inr r ↦ inr (suc r.0, r.1) ]
@@ -104,4 +102,4 @@ last_found k d t (Trim p h ∷ log) e = elim (last_found (k + 1) d t log e) [ in
 
 -- a log with a last term has its Term record
 pub has_term : (log : List Record) (t : ℕ) → 0 < t → last_term log ≡ t → (i : ℕ) × (slice_get log i ≡ Some (Term t))
-has_term log t some e = elim (last_found 1 0 t log e) [ inl none ↦ absurd (omega (arith, none, some)) | inr r ↦ r ]
+has_term log t some e = elim (last_found 0 0 t log e) [ inl none ↦ absurd (omega (arith, none, some)) | inr r ↦ r ]

@@ -22,10 +22,11 @@ use Rattle.ag_rules.specs.StartEvent.{start_part, checks_of_start, start_records
 use Rattle.ag_rules.specs.Failover.{takes_over, target}
 use Rattle.ag_rules.specs.ResumeMessage.{waits_for}
 use Rattle.ag_rules.specs.KeptLaw.{Confirmed}
+use Rattle.ag_lists.proofs.Tests.{by_bool, if_has}
+use Rattle.ag_lists.proofs.Places.{at_set}
 use Rattle.ag_laws.specs.Logs.{Logs}
 use Rattle.ag_laws.proofs.Prefix.{prefix_refl, prefix_trans}
-use Rattle.ag_laws.proofs.Plans.{by_bool, if_has, unless_has}
-use Rattle.ag_laws.proofs.Lists.{at_set}
+use Rattle.ag_laws.proofs.Plans.{unless_has}
 use Rattle.ag_laws.proofs.Disks.{core_refl, small_all, small_some, each_batches, notes_are_small}
 use Rattle.ag_laws.proofs.Blocks.{small_then, small_then_all}
 use Rattle.ag_laws.proofs.BlockKeeps.{same_term}

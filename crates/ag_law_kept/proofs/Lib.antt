@@ -4,7 +4,6 @@ pub mod Longer
 pub mod Moved
 pub mod Posts
 pub mod Told
-pub mod Stops
 pub mod Goes
 pub mod Calm
 pub mod Grows

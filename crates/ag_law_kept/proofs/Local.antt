@@ -10,8 +10,8 @@ use Rattle.ag_rules.specs.Run.{Moment, run}
 use Rattle.ag_rules.specs.Script.{IsScript}
 use Rattle.ag_rules.specs.TermLog.{term_log}
 use Rattle.ag_rules.specs.KeptLaw.{starts_at}
+use Rattle.ag_lists.proofs.Each.{all_map}
 use Rattle.ag_laws.specs.Logs.{Logs}
-use Rattle.ag_laws.proofs.Lists.{all_map}
 use Rattle.ag_law_kept.specs.Holds.{IsConfirmed}
 use Rattle.ag_law_kept.specs.Local.{all_confirmed_in, StandsOver, Stays, ConfirmedLaw}
 use Rattle.ag_law_kept.proofs.Known.{get_within}

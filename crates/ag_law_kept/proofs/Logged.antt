@@ -8,17 +8,14 @@ use Rattle.ag_rules.specs.Replica.{records, term_of_disk}
 use Rattle.ag_rules.specs.Group.{Group, replica}
 use Rattle.ag_rules.specs.Run.{Moment}
 use Rattle.ag_rules.specs.TermLog.{groups, primary_of, longer, longest, log_of_primary, term_log}
+use Rattle.ag_lists.proofs.Tests.{by_bool, if_has}
 use Rattle.ag_laws.specs.Logs.{Setting, Logs}
 use Rattle.ag_laws.specs.Disk.{IsOwn}
 use Rattle.ag_laws.specs.At.{At}
 use Rattle.ag_laws.specs.Good.{Good}
 use Rattle.ag_laws.specs.Keeps.{Later}
 use Rattle.ag_laws.proofs.Prefix.{prefix_refl, longer_prefix}
-use Rattle.ag_laws.proofs.Plans.{by_bool, if_has}
-
--- the longest log of a replica in a term, from what is known on
-abbrev longest_from : ℕ → ℕ → List Record → List Group → List Record
-longest_from t n log gs = fold (λ l g. longer l (records (replica g n))) log (filter (λ g. (replica g n).term == t) gs)
+use Rattle.ag_laws.proofs.Runs.{longest_from}
 
 -- one more group
 longest_push : (t n : ℕ) (log : List Record) (gs : List Group) (g : Group) → longest_from t n log (gs ++ g ∷ []) ≡ (if (replica g n).term == t then longer (longest_from t n log gs) (records (replica g n)) else longest_from t n log gs)

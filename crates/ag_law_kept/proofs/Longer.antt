@@ -13,17 +13,17 @@ use Rattle.ag_model.specs.declared.message.Body.TheVariants.{Hello, Resume, Bloc
 use Rattle.ag_rules.specs.Replica.{Replica, records, end, peer, is_reverting}
 use Rattle.ag_rules.specs.ResumeMessage.{waits_for}
 use Rattle.ag_rules.specs.KeptLaw.{Confirmed}
+use Rattle.ag_lists.proofs.Tests.{by_bool}
+use Rattle.ag_lists.proofs.Each.{all_map}
 use Rattle.ag_laws.specs.Prefix.{IsPrefixOf}
 use Rattle.ag_laws.specs.Logs.{Logs}
 use Rattle.ag_laws.proofs.Prefix.{prefix_trans, prefix_length}
-use Rattle.ag_laws.proofs.Plans.{by_bool}
-use Rattle.ag_laws.proofs.Lists.{all_map}
-use Rattle.ag_laws.proofs.Grow.{traced_longer}
+use Rattle.ag_laws.proofs.Grow.{traced_longer, take_is_prefix}
 use Rattle.ag_law_kept.specs.Known.{IsKnown, AtMost}
 use Rattle.ag_law_kept.specs.Past.{Past}
 use Rattle.ag_law_kept.specs.Tells.{BodyTells, MessageTells}
 use Rattle.ag_law_kept.specs.Holds.{Knowing, IsLeader, HasBegun, IsMember, IsTaken, IsConfirmed}
-use Rattle.ag_law_kept.proofs.Known.{known_longer, most_longer, covers_longer, get_prefix, get_within, take_is_prefix, same_beginning}
+use Rattle.ag_law_kept.proofs.Known.{known_longer, most_longer, covers_longer, get_prefix, get_within, same_beginning}
 use Rattle.ag_law_kept.proofs.World.{AreTraced, IsGrounded, no_later}
 
 -- a replica that waits for a ticket then, waited for it before

@@ -10,10 +10,11 @@ use Rattle.ag_model.specs.Starts.{last_term}
 use Rattle.ag_rules.specs.Replica.{Replica, records, is_reverting}
 use Rattle.ag_rules.specs.Group.{Group, replica, with_replica, link, has, nobody}
 use Rattle.ag_rules.specs.KeptLaw.{Confirmed}
+use Rattle.ag_lists.proofs.Tests.{by_bool}
+use Rattle.ag_lists.proofs.Places.{at_set_there}
+use Rattle.ag_lists.proofs.Each.{all_map}
 use Rattle.ag_laws.specs.Prefix.{IsPrefixOf}
 use Rattle.ag_laws.specs.Logs.{Logs}
-use Rattle.ag_laws.proofs.Plans.{by_bool}
-use Rattle.ag_laws.proofs.Lists.{all_map, at_set_there}
 use Rattle.ag_law_kept.specs.Past.{Past}
 use Rattle.ag_law_kept.specs.Tells.{MessageTells}
 use Rattle.ag_law_kept.specs.Holds.{Knowing, IsState, IsLeader, IsMember, IsTaken, IsConfirmed, Holds}

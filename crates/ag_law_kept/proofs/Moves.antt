@@ -1,7 +1,7 @@
 -- The store moves to a new term: what was known of the set is what is known of its target.
 use Rattle.std.specs.Prelude.{◌==◌, not, Some, ◌&&◌, slice_get}
 use Rattle.std.proofs.Common.{◌≡◌, ◌≢◌, ℕ, ◌+◌, ◌<◌, ◌≤◌, List, [], length, take, Bool, true, false, refl, sym, ap, ◌∙◌, subst, arith, length-set}
-use Rattle.std.proofs.lemmas.Bool.{false≢true, and_parts, eqb-true, eqb-false}
+use Rattle.std.proofs.lemmas.Bool.{false≢true, and_parts, eqb-true, eqb-false, not-true}
 use Rattle.std.proofs.lemmas.List.{get_or-set_other}
 use Rattle.ag_model.specs.declared.record.Record.{Record}
 use Rattle.ag_model.specs.declared.config.Register.{Register}
@@ -12,11 +12,12 @@ use Rattle.ag_rules.specs.Group.{Group, replica, with_replica, link, has, nobody
 use Rattle.ag_rules.specs.Failover.{old_primary}
 use Rattle.ag_rules.specs.KeptLaw.{Confirmed}
 use Rattle.ag_model.specs.declared.record.Record.TheVariants.{Term}
+use Rattle.ag_lists.proofs.Tests.{by_bool, if_has}
+use Rattle.ag_lists.proofs.Places.{at_set, at_set_there}
+use Rattle.ag_lists.proofs.Each.{all_map}
 use Rattle.ag_laws.specs.Prefix.{IsPrefixOf}
 use Rattle.ag_laws.specs.Logs.{Logs}
 use Rattle.ag_laws.proofs.Prefix.{prefix_refl}
-use Rattle.ag_laws.proofs.Plans.{by_bool, if_has}
-use Rattle.ag_laws.proofs.Lists.{all_map, at_set, at_set_there}
 use Rattle.ag_law_kept.specs.Known.{IsKnown}
 use Rattle.ag_law_kept.specs.Past.{Past, move}
 use Rattle.ag_law_kept.specs.Tells.{BodyTells, MessageTells}
@@ -50,10 +51,6 @@ old_has P r down up =
     if_has P (r.up && (r.leads && not r.cut_off)) (stepped_down r) r
     (λ e. down (and_parts _ _ (and_parts _ _ e).1).0 (not-true _ (and_parts _ _ (and_parts _ _ e).1).1))
     (λ e. up e)
-  where
-    not-true : (b : Bool) → not b ≡ true → b ≡ false
-    not-true true e = absurd (false≢true e)
-    not-true false e = refl
 
 -- no replica acts as primary and isn't cut off, nor is the target one that acts
 pub record AllCut (g : Group) (n : ℕ) : Type 0 where

@@ -3,6 +3,7 @@ use Rattle.std.specs.Prelude.{◌==◌, nat_lt, ◌&&◌, ◌||◌}
 use Rattle.std.proofs.Common.{◌≡◌, ◌≢◌, ℕ, ◌+◌, ◌<◌, ◌≤◌, List, ◌++◌, length, Bool, true, false, refl, sym, ap, ◌∙◌, subst, arith, length-set}
 use Rattle.std.proofs.lemmas.Bool.{eqb-true, eqb-false, ltb-true, ltb-false}
 use Rattle.std.proofs.lemmas.List.{get_or-set_other}
+use Rattle.std.proofs.Math.Bool.{and-false}
 use Rattle.ag_model.specs.declared.config.Register.{Register}
 use Rattle.ag_model.specs.declared.event.Suffix.{Suffix}
 use Rattle.ag_rules.specs.Replica.{Replica, is_reverting}
@@ -11,10 +12,11 @@ use Rattle.ag_rules.specs.Plan.{Part, Check, here, refused, at_node, at_node_aft
 use Rattle.ag_rules.specs.Cut.{cut}
 use Rattle.ag_rules.specs.Failover.{failover, failover_checks, failover_records, group_moved, old_primary, takes_over, target}
 use Rattle.ag_rules.specs.KeptLaw.{Confirmed}
+use Rattle.ag_lists.proofs.Tests.{by_bool, or_same}
 use Rattle.ag_laws.specs.Logs.{Logs, Setting}
 use Rattle.ag_laws.specs.Good.{Good}
 use Rattle.ag_laws.specs.Keeps.{Keeps, Later}
-use Rattle.ag_laws.proofs.Plans.{by_bool, unless_has, Passes}
+use Rattle.ag_laws.proofs.Plans.{unless_has, Passes}
 use Rattle.ag_laws.proofs.Cuts.{cut_has}
 use Rattle.ag_law_kept.specs.Past.{Past, Meets, move}
 use Rattle.ag_law_kept.specs.Holds.{Holds}
@@ -40,19 +42,11 @@ pub record Next (past : Past) (cs : List Confirmed) (s2 : Setting) (grown : Logs
   pub remembers : Remembers now s2 after
   pub safe : (t : ℕ) → now.safe t ≡ (past.safe t || safely t g after)
 
-and_none : (b : Bool) → (b && false) ≡ false
-and_none true = refl
-and_none false = refl
-
-or_none : (a b : Bool) → b ≡ false → a ≡ (a || b)
-or_none true b e = refl
-or_none false b e = sym e
-
 not_safely : (t : ℕ) (g after : Group) → (after.register.term ≡ t → t ≤ g.register.term) → safely t g after ≡ false
 not_safely t g after low =
     by_term (safely t g after ≡ false) after.register.term t
     (λ same. ap (λ b. b && ((after.register.term == t) && has g.register.synced after.register.primary)) (below (low same)))
-    (λ apart. ap (λ b. nat_lt g.register.term t && (b && has g.register.synced after.register.primary)) (differ apart) ∙ and_none (nat_lt g.register.term t))
+    (λ apart. ap (λ b. nat_lt g.register.term t && (b && has g.register.synced after.register.primary)) (differ apart) ∙ and-false (nat_lt g.register.term t))
   where
     below : t ≤ g.register.term → nat_lt g.register.term t ≡ false
     below h = by_bool (nat_lt g.register.term t) (λ v. nat_lt g.register.term t ≡ v → nat_lt g.register.term t ≡ false) (λ _ e. absurd (omega (arith, ltb-true g.register.term t e, h))) (λ _ e. e) refl
@@ -70,7 +64,7 @@ next_same past cs s logs g after good r k same f =
       now = o.now;
       holds = o.holds;
       remembers = record { meets = λ t h. sym (o.target t) ∙ meets t h; ahead = λ t h. sym (o.safe t) ∙ r.ahead t (omega (arith, h, same)) };
-      safe = λ t. sym (o.safe t) ∙ or_none (past.safe t) (safely t g after) (not_safely t g after (λ e. omega (arith, e, same)));
+      safe = λ t. sym (o.safe t) ∙ or_same (past.safe t) (safely t g after) (not_safely t g after (λ e. omega (arith, e, same)));
     }
 
 -- an event of one replica leaves the store
@@ -140,7 +134,7 @@ failover_next past cs s logs g n store checks suffix good r h there term primary
                   ∙ ap (has g.register.synced) (sym primary ∙ ap (λ (x : Register). x.primary) (sym at))
                   ∙ sym (ap (λ b. b && ((after.register.term == t) && has g.register.synced after.register.primary)) (lt_yes g.register.term t (omega (arith, e))) ∙ ap (λ b. b && has g.register.synced after.register.primary) (eq_yes after.register.term t (at_term ∙ sym e)))
                   ∙ ap (λ b. b || safely t g after) (sym (r.ahead t (omega (arith, e)))))
-                  (λ e. safe_other past (g.register.term + 1) n (has g.register.synced n) t e ∙ or_none (past.safe t) (safely t g after) (not_safely t g after (λ q. absurd (e (sym q ∙ at_term)))));
+                  (λ e. safe_other past (g.register.term + 1) n (has g.register.synced n) t e ∙ or_same (past.safe t) (safely t g after) (not_safely t g after (λ q. absurd (e (sym q ∙ at_term)))));
             }
           where
             lt_yes : (a b : ℕ) → a < b → nat_lt a b ≡ true

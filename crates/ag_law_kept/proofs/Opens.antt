@@ -3,7 +3,6 @@ use Rattle.std.specs.Prelude.{if◌then◌else◌, ◌==◌, None, nat_lt}
 use Rattle.std.proofs.Common.{◌≡◌, ℕ, zero, suc, ◌+◌, ◌/◌, ◌%◌, ◌^◌, ◌<◌, ◌≤◌, List, [], ◌∷◌, length, replicate, map, get_or, Bool, true, false, refl, sym, ap, ◌∙◌, subst, arith, pow_mono}
 use Rattle.std.specs.List.{AllByRecursion}
 use Rattle.std.proofs.lemmas.Bool.{false≢true, eqb-true, ltb-true, ltb-false}
-use Rattle.std.proofs.lemmas.List.{length-map}
 use Rattle.ag_model.specs.declared.record.Record.{Record}
 use Rattle.ag_model.specs.declared.record.Record.TheVariants.{Term}
 use Rattle.ag_model.specs.declared.message.Message.{Message}
@@ -11,10 +10,12 @@ use Rattle.ag_model.specs.declared.config.Config.{Config}
 use Rattle.ag_model.specs.declared.config.Mode.{Mode}
 use Rattle.ag_rules.specs.Replica.{Replica, records, no_peer, is_reverting}
 use Rattle.ag_rules.specs.Group.{replica, has, opening, opening_replica, opening_replicas, opening_peers, synced_at_opening, waited_for, is_waited_for, nobody}
+use Rattle.ag_lists.proofs.Tests.{by_bool, if_has}
+use Rattle.ag_lists.proofs.Places.{at_replicate}
 use Rattle.ag_laws.specs.First.{first_logs, first_setting}
-use Rattle.ag_laws.proofs.Plans.{by_bool, if_has}
 use Rattle.ag_laws.proofs.Prefix.{prefix_refl}
 use Rattle.ag_laws.specs.Prefix.{IsPrefixOf}
+use Rattle.ag_laws.proofs.Opening.{count_all}
 use Rattle.ag_law_kept.specs.Known.{IsKnown, AtMost}
 use Rattle.ag_law_kept.specs.Past.{Past}
 use Rattle.ag_law_kept.specs.Tells.{MessageTells}
@@ -136,10 +137,6 @@ first_leader c n = record {
   normal = refl;
 }
 
-count_all : (c : Config) (ms : List Mode) → length (opening_replicas c ms) ≡ length ms
-count_all c [] = refl
-count_all c (m ∷ ms) = ap suc (length-map ms (λ (m : Mode). opening_replica c false))
-
 first_member : (c : Config) (m : ℕ) → m < length c.modes → IsMember (first_past c) first_logs (opening c).register (length (opening c).replicas) m (replica (opening c) m)
 unfolding opening
 first_member c m low =
@@ -154,11 +151,6 @@ first_member c m low =
         known = subst (λ (l : List Record). IsKnown l (first_logs 1) (0 + 1)) (sym t.log) (known_self (Term 1 ∷ []) (first_logs 1) (0 + 1) (omega arith) (prefix_refl (first_logs 1)));
       };
     }
-
-at_replicate : {A : Type 0} (P : A → Type 0) (k : ℕ) (x d : A) (n : ℕ) → P d → P x → P (get_or (replicate k x) n d)
-at_replicate P zero x d n p q = p
-at_replicate P (suc k) x d zero p q = q
-at_replicate P (suc k) x d (suc n) p q = at_replicate P k x d n p q
 
 pub opening_remembers : (c : Config) → Remembers (first_past c) (first_setting c) (opening c)
 opening_remembers c = record { meets = λ t h. refl; ahead = λ t h. refl }

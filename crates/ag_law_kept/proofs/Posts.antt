@@ -6,8 +6,9 @@ use Rattle.ag_rules.specs.Group.{Group, replica, link, with_link}
 use Rattle.ag_rules.specs.Plan.{Posting, posted}
 use Rattle.ag_rules.specs.DeliverEvent.{taken}
 use Rattle.ag_rules.specs.KeptLaw.{Confirmed}
+use Rattle.ag_lists.proofs.Places.{at_set}
+use Rattle.ag_lists.proofs.Each.{all_append, all_take, all_drop}
 use Rattle.ag_laws.specs.Logs.{Logs}
-use Rattle.ag_laws.proofs.Lists.{at_set, all_append, all_take, all_drop}
 use Rattle.ag_law_kept.specs.Past.{Past}
 use Rattle.ag_law_kept.specs.Tells.{MessageTells}
 use Rattle.ag_law_kept.specs.Holds.{Holds}

@@ -17,13 +17,14 @@ use Rattle.ag_rules.specs.Plan.{Check, Part, Master_write, here, at_node, writte
 use Rattle.ag_rules.specs.Cut.{cut}
 use Rattle.ag_rules.specs.ResumeMessage.{resume_message_part, checks_of_resume_message, stays, follows_from, reverts_from, goes_on, master_at, reverting_master, lowered, page_in_term, foreign_from, may_follow, is_touched_after, waits_for, accepting}
 use Rattle.ag_rules.specs.KeptLaw.{Confirmed}
+use Rattle.ag_lists.proofs.Tests.{by_bool, if_has}
 use Rattle.ag_laws.specs.Prefix.{IsPrefixOf}
 use Rattle.ag_laws.specs.Logs.{Logs}
 use Rattle.ag_laws.specs.Fits.{IsAnswered}
 use Rattle.ag_laws.proofs.Prefix.{prefix_refl, take_prefix}
-use Rattle.ag_laws.proofs.Plans.{by_bool, if_has, unless_has}
+use Rattle.ag_laws.proofs.Plans.{unless_has}
 use Rattle.ag_laws.proofs.Disks.{SameCore, core_refl, core_trans}
-use Rattle.ag_laws.proofs.Cuts.{cut_has}
+use Rattle.ag_laws.proofs.Cuts.{cut_has, stop_has, fail_has}
 use Rattle.ag_law_kept.specs.Known.{AtMost}
 use Rattle.ag_law_kept.specs.Past.{Past}
 use Rattle.ag_law_kept.specs.Tells.{ResumeTells}
@@ -31,7 +32,6 @@ use Rattle.ag_law_kept.specs.Holds.{IsSaved, Holds}
 use Rattle.ag_law_kept.proofs.Known.{most_longer, nil_prefix}
 use Rattle.ag_law_kept.proofs.World.{IsWorld, AreGrown}
 use Rattle.ag_law_kept.proofs.Told.{no_wait}
-use Rattle.ag_law_kept.proofs.Stops.{stop_has, fail_has}
 use Rattle.ag_law_kept.proofs.Goes.{disk_core, Fit, fit_of, Outcome, sent_holds, fallen_holds}
 use Rattle.ag_law_kept.proofs.Calm.{disk_refl, same_calm}
 use Rattle.ag_law_kept.proofs.Leads.{cut_calm}

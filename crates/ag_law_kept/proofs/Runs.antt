@@ -1,9 +1,11 @@
 -- From events to runs.
 use Rattle.std.specs.Prelude.{◌==◌, Option, Some, None, ◌||◌}
-use Rattle.std.proofs.Common.{◌≡◌, ℕ, ◌<◌, List, [], ◌∷◌, ◌++◌, length, Bool, true, false, refl, sym, ap, ◌∙◌, subst, arith, append_assoc, append-nil}
-use Rattle.std.specs.List.{fold, flat_map, list_any}
+use Rattle.std.proofs.Common.{◌≡◌, ℕ, ◌<◌, List, [], ◌∷◌, ◌++◌, length, refl, sym, ap, ◌∙◌, subst, arith, append_assoc, append-nil}
+use Rattle.std.specs.List.{fold, list_any}
 use Rattle.std.proofs.lemmas.Bool.{eqb-true, eqb-false}
 use Rattle.std.proofs.lemmas.List.Folds.{list_any-append}
+use Rattle.std.proofs.Math.Bool.{or-false}
+use Rattle.std.proofs.lemmas.List.Concat.{flat_map-append}
 use Rattle.ag_model.specs.declared.record.Record.TheVariants.{Term}
 use Rattle.ag_model.specs.declared.config.Config.{Config}
 use Rattle.ag_model.specs.declared.event.Event.{Event}
@@ -14,11 +16,11 @@ use Rattle.ag_rules.specs.Run.{Moment, moment, moments_from}
 use Rattle.ag_rules.specs.Script.{IsEvent, IsScript}
 use Rattle.ag_rules.specs.TermLog.{groups, longer, longest}
 use Rattle.ag_rules.specs.KeptLaw.{Confirmed, is_safe_into}
+use Rattle.ag_lists.proofs.Tests.{if_has}
 use Rattle.ag_laws.specs.Logs.{Setting, Logs}
 use Rattle.ag_laws.specs.Good.{Good}
 use Rattle.ag_laws.specs.First.{first_setting, first_logs}
 use Rattle.ag_laws.specs.Keeps.{Keeps}
-use Rattle.ag_laws.proofs.Plans.{if_has}
 use Rattle.ag_laws.proofs.Events.{next_keeps}
 use Rattle.ag_laws.proofs.Opening.{opening_good}
 use Rattle.ag_law_kept.specs.Past.{Past}
@@ -42,13 +44,9 @@ pub record Reached (c : Config) (ms : List Moment) (g : Group) : Type 0 where
   pub safe : (t : ℕ) → past.safe t ≡ list_any (is_safe_into t) ms
   pub logged : Logged setting logs (groups ms ++ g ∷ [])
 
-flat_map_append : {X A : Type 0} (f : X → List A) (xs ys : List X) → flat_map f (xs ++ ys) ≡ flat_map f xs ++ flat_map f ys
-flat_map_append f [] ys = refl
-flat_map_append f (x ∷ xs) ys = ap (λ l. f x ++ l) (flat_map_append f xs ys) ∙ sym (append_assoc (f x) (flat_map f xs) (flat_map f ys))
-
 -- the groups of one more event
 groups_push : (ms : List Moment) (g : Group) (e : Event) → (groups ms ++ g ∷ []) ++ (done g e).after ∷ [] ≡ groups (ms ++ moment g e ∷ [])
-groups_push ms g e = append_assoc (groups ms) (g ∷ []) ((done g e).after ∷ []) ∙ sym (flat_map_append (λ (m : Moment). m.before ∷ m.after ∷ []) ms (moment g e ∷ []))
+groups_push ms g e = append_assoc (groups ms) (g ∷ []) ((done g e).after ∷ []) ∙ sym (flat_map-append (λ (m : Moment). m.before ∷ m.after ∷ []) ms (moment g e ∷ []))
 
 -- what one more event comes to, with the logs as its groups tell them
 pub record Stepped (c : Config) (ms : List Moment) (g : Group) (e : Event) : Type 0 where
@@ -63,7 +61,7 @@ step c ms g e is r =
     let n : Next r.past (all_confirmed_in ms ++ all_confirmed_at g e (done g e).answer) k.setting k.grown g after = next_event r.past (all_confirmed_in ms) r.setting r.logs g r.good r.remembers r.holds e is2 k in
     let told : Logged k.setting k.grown (groups (ms ++ moment g e ∷ [])) = subst (Logged k.setting k.grown) (groups_push ms g e) (logged_next r.setting k.setting r.logs k.grown (groups ms ++ g ∷ []) after r.logged r.good.are.future k.good k.later k.step) in
     let same : all_confirmed_in ms ++ all_confirmed_at g e (done g e).answer ≡ all_confirmed_in (ms ++ moment g e ∷ []) =
-    ap (λ l. all_confirmed_in ms ++ l) (sym (append-nil (all_confirmed_at g e (done g e).answer))) ∙ sym (flat_map_append (λ (m : Moment). all_confirmed_at m.before m.event m.answer) ms (moment g e ∷ [])) in
+    ap (λ l. all_confirmed_in ms ++ l) (sym (append-nil (all_confirmed_at g e (done g e).answer))) ∙ sym (flat_map-append (λ (m : Moment). all_confirmed_at m.before m.event m.answer) ms (moment g e ∷ [])) in
     record {
       reached = record {
         past = n.now;
@@ -73,15 +71,11 @@ step c ms g e is r =
         good = k.good;
         remembers = n.remembers;
         holds = subst (λ (cs : List Confirmed). Holds n.now cs k.grown after) same n.holds;
-        safe = λ t. n.safe t ∙ ap (λ b. b || is_safe_into t (moment g e)) (r.safe t) ∙ ap (λ b. list_any (is_safe_into t) ms || b) (sym (or_false (is_safe_into t (moment g e)))) ∙ sym (list_any-append (is_safe_into t) ms (moment g e ∷ []));
+        safe = λ t. n.safe t ∙ ap (λ b. b || is_safe_into t (moment g e)) (r.safe t) ∙ ap (λ b. list_any (is_safe_into t) ms || b) (sym (or-false (is_safe_into t (moment g e)))) ∙ sym (list_any-append (is_safe_into t) ms (moment g e ∷ []));
         logged = logged_again k.setting k.grown (groups (ms ++ moment g e ∷ [])) after told k.good;
       };
       told = told;
     }
-  where
-    or_false : (b : Bool) → (b || false) ≡ b
-    or_false true = refl
-    or_false false = refl
 
 pub opened : (c : Config) → 0 < length c.modes → Reached c [] (opening c)
 opened c some =

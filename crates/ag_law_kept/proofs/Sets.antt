@@ -2,7 +2,7 @@
 use Rattle.std.proofs.Common.{◌≡◌, ℕ, zero, suc, ◌+◌, ◌-◌, ◌*◌, ◌/◌, ◌%◌, ◌^◌, true, inl, inr, ◌⊎◌, refl, sym, ap, ◌∙◌, arith, pow-suc, shr-shr, div-one}
 use Rattle.std.proofs.lemmas.Bool.{eqb-true, eqb-false, eq-eqb}
 use Rattle.ag_rules.specs.Group.{has, with_member, without_member}
-use Rattle.ag_laws.proofs.Plans.{if_has}
+use Rattle.ag_lists.proofs.Tests.{if_has}
 
 -- the bit of a replica
 abbrev pub bit : ℕ → ℕ → ℕ

@@ -9,6 +9,8 @@ use Rattle.ag_model.specs.declared.event.Suffix.{Suffix}
 use Rattle.ag_model.specs.declared.answer.Answer.TheVariants.{Resumed, Synchronised, TimedOut}
 use Rattle.ag_model.specs.declared.config.Ticket.{Ticket}
 use Rattle.ag_rules.specs.ResumeMessage.{waits_for}
+use Rattle.ag_lists.proofs.Places.{at_set, at_set_there}
+use Rattle.ag_lists.proofs.Each.{all_map}
 use Rattle.ag_laws.specs.Prefix.{IsPrefixOf}
 use Rattle.ag_rules.specs.Replica.{Replica, Kept, Peer, records, end, peer, no_peer, is_reverting}
 use Rattle.ag_rules.specs.Group.{Group, replica, with_replica, link, has, nobody, with_member, without_member}
@@ -21,7 +23,6 @@ use Rattle.ag_rules.specs.KeptLaw.{Confirmed}
 use Rattle.ag_laws.specs.Logs.{Logs}
 use Rattle.ag_laws.proofs.Prefix.{prefix_refl}
 use Rattle.ag_laws.proofs.Plans.{unless_has}
-use Rattle.ag_laws.proofs.Lists.{all_map, at_set, at_set_there}
 use Rattle.ag_laws.proofs.BlockKeeps.{same_term}
 use Rattle.ag_law_kept.specs.Known.{IsKnown}
 use Rattle.ag_law_kept.specs.Past.{Past}

@@ -1,5 +1,5 @@
 -- What was confirmed as synchronous is some of what was confirmed.
-use Rattle.std.proofs.Common.{List, [], ◌∷◌, ◌++◌}
+use Rattle.std.proofs.Common.{List, [], ◌∷◌}
 use Rattle.std.specs.List.{AllByRecursion}
 use Rattle.ag_model.specs.declared.event.Event.{Event}
 use Rattle.ag_model.specs.declared.event.Event.TheVariants.{Ack}
@@ -10,19 +10,11 @@ use Rattle.ag_rules.specs.Group.{Group, replica}
 use Rattle.ag_rules.specs.Next.{named}
 use Rattle.ag_rules.specs.Run.{Moment}
 use Rattle.ag_rules.specs.KeptLaw.{Confirmed, confirmed_by, confirmed_at, confirmed_in}
+use Rattle.ag_lists.proofs.Each.{all_append, all_left, all_right}
 use Rattle.ag_laws.specs.Logs.{Logs}
-use Rattle.ag_laws.proofs.Lists.{all_append}
 use Rattle.ag_law_kept.specs.Past.{Past}
 use Rattle.ag_law_kept.specs.Holds.{IsConfirmed, Holds}
 use Rattle.ag_law_kept.specs.Local.{all_confirmed_by, all_confirmed_at, all_confirmed_in}
-
-all_left : {X : Type 0} (P : X → Type 0) (xs ys : List X) → AllByRecursion P (xs ++ ys) → AllByRecursion P xs
-all_left P [] ys p = tt
-all_left P (x ∷ xs) ys p = (p.0, all_left P xs ys p.1)
-
-all_right : {X : Type 0} (P : X → Type 0) (xs ys : List X) → AllByRecursion P (xs ++ ys) → AllByRecursion P ys
-all_right P [] ys p = p
-all_right P (x ∷ xs) ys p = all_right P xs ys p.1
 
 sync_by : (P : Confirmed → Type 0) (r : Replica) (a : Answer) → AllByRecursion P (all_confirmed_by r a) → AllByRecursion P (confirmed_by r a)
 sync_by P r (LocalAt lsn) p = tt

@@ -11,11 +11,11 @@ use Rattle.ag_rules.specs.Replica.{Replica, records, end}
 use Rattle.ag_rules.specs.Group.{Group, replica, link}
 use Rattle.ag_rules.specs.ResumeMessage.{waits_for}
 use Rattle.ag_rules.specs.KeptLaw.{Confirmed}
+use Rattle.ag_lists.proofs.Tests.{by_bool, if_has}
+use Rattle.ag_lists.proofs.Each.{all_map}
 use Rattle.ag_laws.specs.Prefix.{IsPrefixOf}
 use Rattle.ag_laws.specs.Logs.{Logs}
 use Rattle.ag_laws.proofs.Prefix.{prefix_refl}
-use Rattle.ag_laws.proofs.Plans.{by_bool, if_has}
-use Rattle.ag_laws.proofs.Lists.{all_map}
 use Rattle.ag_law_kept.specs.Known.{IsKnown, AtMost, Covers}
 use Rattle.ag_law_kept.specs.Past.{Past, tell, ask}
 use Rattle.ag_law_kept.specs.Tells.{BodyTells, MessageTells}

@@ -13,7 +13,7 @@ use Rattle.ag_rules.specs.Run.{Moment, moment, moments_from}
 use Rattle.ag_rules.specs.Script.{IsConfig, IsEvent, IsScript}
 use Rattle.ag_rules.specs.TermLog.{groups}
 use Rattle.ag_law_logs.specs.ProperRecords.{HardenedAreProper}
-use Rattle.ag_law_logs.specs.Reached.{after_events, IsReached}
+use Rattle.ag_law_logs.specs.Reached.{after_events, after_more, IsReached}
 use Rattle.ag_law_logs.proofs.Whole.{hardened_proper}
 
 -- what holds of the groups of a run whose first moment is this one
@@ -29,10 +29,6 @@ before_last P g (d ∷ ds) e all = before_last P (next g d) ds e (split P (momen
 script_more : (c : Config) (es : List Event) (e : Event) → IsScript c es → IsEvent c e → IsScript c (es ++ e ∷ [])
 script_more c [] e all one = (one, tt)
 script_more c (d ∷ ds) e all one = (all.0, script_more c ds e all.1 one)
-
-after_more : (g : Group) (es : List Event) (e : Event) → after_events g (es ++ e ∷ []) ≡ next (after_events g es) e
-after_more g [] e = refl
-after_more g (d ∷ ds) e = after_more (next g d) ds e
 
 pub reached_opening : (c : Config) → IsReached c (opening c)
 reached_opening c = ([], tt, refl)

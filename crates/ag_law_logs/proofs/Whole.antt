@@ -14,8 +14,8 @@ use Rattle.ag_rules.specs.Group.{Group, replica, nobody}
 use Rattle.ag_rules.specs.Run.{run}
 use Rattle.ag_rules.specs.Script.{IsConfig, IsScript}
 use Rattle.ag_rules.specs.TermLog.{groups, term_log}
-use Rattle.ag_laws.proofs.Plans.{by_bool}
-use Rattle.ag_laws.proofs.Lists.{all_map}
+use Rattle.ag_lists.proofs.Tests.{by_bool}
+use Rattle.ag_lists.proofs.Each.{all_map, all_both}
 use Rattle.ag_law_proper.specs.LogsHave.{HardenedHave}
 use Rattle.ag_law_proper.specs.Places.{EachPlace}
 use Rattle.ag_law_proper.proofs.Runs.{Held, in_run, term_log_has}
@@ -27,10 +27,6 @@ use Rattle.ag_law_blocks.proofs.Runs.{blocks_in_run}
 use Rattle.ag_law_blocks.proofs.Sectors.{records_some}
 use Rattle.ag_law_logs.specs.ProperRecords.{HasProperRecords, HardenedAreProper, BufferedAreProper, IsTermLog}
 use Rattle.ag_law_logs.proofs.Buffers.{Buffered, AnyLog, buffer_law}
-
-all_both : {X : Type 0} (P Q : X → Type 0) (xs : List X) → AllByRecursion P xs → AllByRecursion Q xs → AllByRecursion (λ x. P x × Q x) xs
-all_both P Q [] p q = tt
-all_both P Q (x ∷ xs) p q = ((p.0, q.0), all_both P Q xs p.1 q.1)
 
 -- what the laws say of one group
 record OfGroup (pages : ℕ) (g : Group) : Type 0 where

@@ -1,7 +1,7 @@
 -- The rows that a transaction's changes leave of one key, as the table has them and as the versions of its page do.
 use Rattle.std.proofs.Common.{◌≡◌, ℕ, ◌+◌, Bool, true, false, ◌&&◌, cond, eqb, List, [], ◌∷◌, ◌++◌, map, refl, sym, ap, ◌∙◌, inl, inr, arith}
 use Rattle.std.specs.List.{list_any, filter, fold, flat_map, enumerate_from}
-use Rattle.std.proofs.lemmas.Bool.{cases_Bool, or_parts, eqb-true, eq-eqb, ne_eqb, eqb-false}
+use Rattle.std.proofs.lemmas.Bool.{cases_Bool, or_parts, eqb-true, eq-eqb, ne_eqb, eqb-false, and_right}
 use Rattle.std.proofs.lemmas.Bool.Decides.{nat_tests}
 use Rattle.std.proofs.lemmas.List.{map-append}
 use Rattle.std.proofs.lemmas.List.Elements.{filter-append}
@@ -123,13 +123,10 @@ one-version log t c key h lsn u k change = elim (cases_Bool (eqb t u)) [
     by_key true = refl
     by_key false = refl
 
-    and-none : (a b : Bool) → b ≡ false → (a && b) ≡ false
-    and-none true b e = e
-    and-none false b e = refl
 
     by_gone : (gone : Bool) (w : Version) → eqb w.commit c ≡ false → map (λ (w : Version). row_of w.change) (filter (is_new key c) (cond gone [] (w ∷ []))) ≡ []
     by_gone true w e = refl
-    by_gone false w e = (let none : is_new key c w ≡ false = and-none (eqb w.key key) (eqb w.commit c) e in rw none refl)
+    by_gone false w e = (let none : is_new key c w ≡ false = and_right (eqb w.key key) (eqb w.commit c) e in rw none refl)
 
 -- only keys of the page count
 on-page : (pages key t u k : ℕ) (row : Row) (xs : List Version) (c : ℕ) → map (λ w. row_of w.change) (filter (is_new key c) xs) ≡ cond (eqb t u && eqb key k) (row ∷ []) []

@@ -1,7 +1,7 @@
 -- The pick, snapshot by snapshot, is the row, record by record.
 use Rattle.std.proofs.Common.{◌≡◌, ℕ, zero, suc, ◌+◌, ◌-◌, ◌<◌, ◌≤◌, max, Bool, true, false, ◌&&◌, cond, eqb, List, [], ◌∷◌, ◌++◌, length, get_or, map, take, drop, refl, sym, ap, subst, ◌∙◌, inl, inr, arith, Some, slice_get, append_assoc}
 use Rattle.std.specs.List.{AllByRecursion, list_any, filter, fold, flat_map, enumerate_from}
-use Rattle.std.proofs.lemmas.Bool.{cases_Bool, or_cases, or_parts, false≢true}
+use Rattle.std.proofs.lemmas.Bool.{cases_Bool, or_cases, or_parts, false≢true, and_right}
 use Rattle.std.proofs.lemmas.Bool.Decides.{nat_tests}
 use Rattle.std.proofs.lemmas.List.{take-take, drop-take, take_more, take-append-drop, append-nil, length-take, get_or-take, get_or-drop, length-drop, map-append}
 use Rattle.std.proofs.lemmas.List.Concat.{flat_map-append}
@@ -9,6 +9,8 @@ use Rattle.std.proofs.lemmas.List.Elements.{filter-append, recursion_from_All, A
 use Rattle.std.proofs.lemmas.List.Folds.{list_any-append, list_any_at}
 use Rattle.std.proofs.lemmas.List.FromFn.{get_or-enumerate_from, length-enumerate_from}
 use Rattle.std.proofs.lemmas.List.Sums.{fold_push, fold-append}
+use Rattle.ag_lists.proofs.Filters.{all_filter, all_passed, filter_none}
+use Rattle.ag_lists.proofs.Each.{all_map, all_both}
 use Rattle.ag_model.specs.declared.value.Row.{Row}
 use Rattle.ag_model.specs.declared.value.Row.TheVariants.{Absent}
 use Rattle.ag_model.specs.declared.value.Version.{Version}
@@ -19,12 +21,12 @@ use Rattle.ag_model.specs.Page.{numbered, commit_of, version_here, version_by, i
 use Rattle.ag_model.specs.Proper.{IsRecordOf}
 use Rattle.ag_model.specs.Txns.{txn_of}
 use Rattle.ag_version.specs.Steps.{AreProper, IsAt}
-use Rattle.ag_version.proofs.Lists.{filter-agree, each_weaker}
+use Rattle.ag_version.proofs.Lists.{filter-agree}
 use Rattle.ag_version.proofs.Endings.{IsOpen}
 use Rattle.ag_version.proofs.Versions.{versions-committed}
-use Rattle.ag_version.proofs.Prefixes.{open-before}
+use Rattle.ag_version.proofs.Prefixes.{open-before, record-at}
 use Rattle.ag_law_picks.proofs.Tops.{ComeBefore, NoneAfter, greatest-at, Rise, Rise-weaker, below-front, any_none}
-use Rattle.ag_law_picks.proofs.Trims.{is_seen, trims-leave, each_filter, each_passes, each_both, filter-none}
+use Rattle.ag_law_picks.proofs.Trims.{is_seen, trims-leave}
 use Rattle.ag_law_picks.proofs.Changes.{last_of, rows_by, is_new, Commits, fold_changed, changes-rows, rows-after, change-none, versions-rows}
 use Rattle.ag_law_picks.proofs.Commits.{IsOver, commits-within, nothing-new}
 
@@ -69,8 +71,8 @@ pub step_pick : (key n : ℕ) (all : List Version) → Rise 0 all → picked key
 step_pick key n all rising = elim (cases_Bool (list_any (is_new key (1 + n)) all)) [
   | inr none ↦
       let each = any_none (is_new key (1 + n)) all none in
-      let same : filter (is_seen key (1 + n)) all ≡ filter (is_seen key n) all = filter-agree (is_seen key (1 + n)) (is_seen key n) all (each_weaker (λ w. is_new key (1 + n) w ≡ false) (λ w. is_seen key (1 + n) w ≡ is_seen key n w) (λ w e. seen-same key n w e) all each) in
-      let empty : filter (is_new key (1 + n)) all ≡ [] = filter-none (is_new key (1 + n)) all each in
+      let same : filter (is_seen key (1 + n)) all ≡ filter (is_seen key n) all = filter-agree (is_seen key (1 + n)) (is_seen key n) all (all_map (λ w. is_new key (1 + n) w ≡ false) (λ w. is_seen key (1 + n) w ≡ is_seen key n w) (λ w e. seen-same key n w e) all each) in
+      let empty : filter (is_new key (1 + n)) all ≡ [] = filter_none (is_new key (1 + n)) all each in
       ap (λ (z : List Version). row_of_first (greatest z)) same ∙ ap (λ (z : List Version). last_of (picked key n all) (rows_of z)) (sym empty)
   | inl some ↦
       let t = last_split (is_new key (1 + n)) all some in
@@ -79,13 +81,13 @@ step_pick key n all rising = elim (cases_Bool (list_any (is_new key (1 + n)) all
       let q = is_new key (1 + n) in
       let below = below-front 0 t.front g t.rest (subst (Rise 0) t.parts rising) in
       let fronts : ComeBefore g (filter p t.front) =
-      each_weaker (λ x. (p x ≡ true) × (x.lsn < g.lsn)) (λ x. is_before x g ≡ true) (λ x h. seen-before key n g x t.passes h.0 h.1) (filter p t.front) (each_both (λ x. p x ≡ true) (λ x. x.lsn < g.lsn) (filter p t.front) (each_passes p t.front) (each_filter (λ x. x.lsn < g.lsn) p t.front below)) in
+      all_map (λ x. (p x ≡ true) × (x.lsn < g.lsn)) (λ x. is_before x g ≡ true) (λ x h. seen-before key n g x t.passes h.0 h.1) (filter p t.front) (all_both (λ x. p x ≡ true) (λ x. x.lsn < g.lsn) (filter p t.front) (all_passed p t.front) (all_filter (λ x. x.lsn < g.lsn) p t.front below)) in
       let rests : NoneAfter g (filter p t.rest) =
-      each_weaker (λ x. (p x ≡ true) × (q x ≡ false)) (λ x. is_before g x ≡ false) (λ x h. seen-not-after key n g x t.passes h.0 h.1) (filter p t.rest) (each_both (λ x. p x ≡ true) (λ x. q x ≡ false) (filter p t.rest) (each_passes p t.rest) (each_filter (λ x. q x ≡ false) p t.rest (any_none q t.rest t.none))) in
+      all_map (λ x. (p x ≡ true) × (q x ≡ false)) (λ x. is_before g x ≡ false) (λ x h. seen-not-after key n g x t.passes h.0 h.1) (filter p t.rest) (all_both (λ x. p x ≡ true) (λ x. q x ≡ false) (filter p t.rest) (all_passed p t.rest) (all_filter (λ x. q x ≡ false) p t.rest (any_none q t.rest t.none))) in
       let own : filter p (g ∷ t.rest) ≡ g ∷ filter p t.rest = (let e = new-seen key n g t.passes in rw e refl) in
       let left : filter p all ≡ filter p t.front ++ g ∷ filter p t.rest = ap (filter p) t.parts ∙ filter-append p t.front (g ∷ t.rest) ∙ ap (λ (z : List Version). filter p t.front ++ z) own in
       let top : picked key (1 + n) all ≡ row_of g.change = ap (λ (z : List Version). row_of_first (greatest z)) left ∙ ap row_of_first (greatest-at (filter p t.front) g (filter p t.rest) fronts rests) in
-      let alone : filter q (g ∷ t.rest) ≡ g ∷ [] = (let e = t.passes in rw e (ap (λ (z : List Version). g ∷ z) (filter-none q t.rest (any_none q t.rest t.none)))) in
+      let alone : filter q (g ∷ t.rest) ≡ g ∷ [] = (let e = t.passes in rw e (ap (λ (z : List Version). g ∷ z) (filter_none q t.rest (any_none q t.rest t.none)))) in
       let news : filter q all ≡ filter q t.front ++ g ∷ [] = ap (filter q) t.parts ∙ filter-append q t.front (g ∷ t.rest) ∙ ap (λ (z : List Version). filter q t.front ++ z) alone in
       let last : last_of (picked key n all) (rows_of (filter q all)) ≡ row_of g.change =
       ap (λ (z : List Version). last_of (picked key n all) (rows_of z)) news ∙ ap (last_of (picked key n all)) (map-append (λ (w : Version). row_of w.change) (filter q t.front) (g ∷ []))
@@ -122,15 +124,6 @@ rise-all pages page log low k (r ∷ rs) lt = rise-here pages page log low k r (
 flat_map-each : {X Y : Type 0} (f g : X → List Y) (xs : List X) → AllByRecursion (λ x. f x ≡ g x) xs → flat_map f xs ≡ flat_map g xs
 flat_map-each f g [] h = refl
 flat_map-each f g (x ∷ xs) h = let e = h.0 in let t = flat_map-each f g xs h.1 in cc
-
--- each record of a proper log, by its place
-record-at : (pages : ℕ) (log : List Record) → AreProper pages log → (i : ℕ) (d : Record) → i < length log → IsRecordOf pages log (i + 1) (get_or log i d)
-record-at pages log proper i d lt =
-    let each = All-from_recursion (λ (r : ℕ × Record). IsRecordOf pages log r.0 r.1) (numbered log) proper in
-    let here = each i (0, d) (omega (arith, length-enumerate_from 1 log)) in
-    let at : get_or (numbered log) i (0, d) ≡ (1 + i, get_or log i d) = get_or-enumerate_from 1 log i (0, d) lt in
-    let e : 1 + i ≡ i + 1 = omega arith in
-    subst (λ (k : ℕ). IsRecordOf pages log k (get_or log i d)) e (subst (λ (x : ℕ × Record). IsRecordOf pages log x.0 x.1) at here)
 
 -- a Commit that stands earlier has no change in a later record
 older-commit : (log : List Record) (pages i n : ℕ) (x d : Record) → IsRecordOf pages log (i + 1) x → i < n → n < length log → committed_by (take n log ++ get_or log n d ∷ []) x ≡ committed_by (take n log) x
@@ -195,13 +188,9 @@ no_commit : (pages key n : ℕ) (before : List Record) (r : Record) (rest : List
 no_commit pages key n before r rest len other none row table is =
     let log = before ++ r ∷ rest in
     let all = all_versions pages (page_of pages key) log in
-    let fails : AllByRecursion (λ w. is_new key (1 + n) w ≡ false) all = each_weaker (λ (w : Version). w.commit ≡ commit_of w.txn (numbered log)) (λ w. is_new key (1 + n) w ≡ false)
-    (λ w e. and-none (eqb w.key key) (eqb w.commit (1 + n)) (ap (λ (c : ℕ). eqb c (1 + n)) e ∙ ap (λ (k : ℕ). eqb (commit_of w.txn (numbered log)) k) (sym len) ∙ nothing-new w.txn before r rest (other w.txn))) all (versions-committed pages (page_of pages key) log) in
-    ap (λ (z : List Version). last_of row (map (λ w. row_of w.change) z)) (filter-none (is_new key (1 + n)) all fails) ∙ sym is ∙ ap (λ (z : List KeyChange). fold changed table z key) (sym none)
-  where
-    and-none : (a b : Bool) → b ≡ false → (a && b) ≡ false
-    and-none true b e = e
-    and-none false b e = refl
+    let fails : AllByRecursion (λ w. is_new key (1 + n) w ≡ false) all = all_map (λ (w : Version). w.commit ≡ commit_of w.txn (numbered log)) (λ w. is_new key (1 + n) w ≡ false)
+    (λ w e. and_right (eqb w.key key) (eqb w.commit (1 + n)) (ap (λ (c : ℕ). eqb c (1 + n)) e ∙ ap (λ (k : ℕ). eqb (commit_of w.txn (numbered log)) k) (sym len) ∙ nothing-new w.txn before r rest (other w.txn))) all (versions-committed pages (page_of pages key) log) in
+    ap (λ (z : List Version). last_of row (map (λ w. row_of w.change) z)) (filter_none (is_new key (1 + n)) all fails) ∙ sym is ∙ ap (λ (z : List KeyChange). fold changed table z key) (sym none)
 
 a_commit : (pages key n t : ℕ) (listed : List ℕ) (before rest : List Record) → 1 + length before ≡ 1 + n → IsOpen t before → IsOver t rest → StepsAlike key n (all_versions pages (page_of pages key) (before ++ Commit t listed ∷ rest)) before (Commit t listed)
 a_commit pages key n t listed before rest len begun over row table is =
@@ -247,7 +236,7 @@ no_rows log key = refl
 -- before any trim
 picked-is : (pages key m : ℕ) (log : List Record) → AreProper pages log → m ≤ length log → (n : ℕ) → n ≤ m → picked key n (all_versions pages (page_of pages key) (take m log)) ≡ rows log n key
 picked-is pages key m log proper le zero low =
-    ap (λ (z : List Version). row_of_first (greatest z)) (filter-none (is_seen key 0) (all_versions pages (page_of pages key) (take m log)) (each_seen_none key (all_versions pages (page_of pages key) (take m log)))) ∙ no_rows log key
+    ap (λ (z : List Version). row_of_first (greatest z)) (filter_none (is_seen key 0) (all_versions pages (page_of pages key) (take m log)) (each_seen_none key (all_versions pages (page_of pages key) (take m log)))) ∙ no_rows log key
 picked-is pages key m log proper le (suc n) low =
     let all = all_versions pages (page_of pages key) (take m log) in
     let ih = picked-is pages key m log proper le n (omega arith) in

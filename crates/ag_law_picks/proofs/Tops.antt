@@ -4,6 +4,8 @@ use Rattle.std.specs.List.{AllByRecursion, list_any, filter}
 use Rattle.std.proofs.lemmas.Bool.{cases_Bool, or_parts, or_from, or_left, or_right, or_cases, false≢true}
 use Rattle.std.proofs.lemmas.Bool.Decides.{nat_tests}
 use Rattle.std.proofs.lemmas.List.Folds.{list_any-append}
+use Rattle.ag_version.proofs.Following.{is_before-irrefl}
+use Rattle.ag_lists.proofs.Each.{all_append}
 use Rattle.ag_model.specs.declared.value.Version.{Version}
 use Rattle.ag_model.specs.Page.{is_before, greatest}
 
@@ -53,20 +55,13 @@ pub record TopOf (vs : List Version) : Type 0 where
 before-flip : (v g : Version) → is_before v g ≡ true → is_before g v ≡ false
 before-flip v g e = grind (arith, nat_tests)
 
-before-self : (v : Version) → is_before v v ≡ false
-before-self v = grind (arith, nat_tests)
-
 flip_all : (g : Version) (vs : List Version) → ComeBefore g vs → NoneAfter g vs
 flip_all g [] h = tt
 flip_all g (v ∷ vs) h = (before-flip v g h.0, flip_all g vs h.1)
 
-each_join : (P : Version → Type 0) (a b : List Version) → AllByRecursion P a → AllByRecursion P b → AllByRecursion P (a ++ b)
-each_join P [] b h k = k
-each_join P (x ∷ a) b h k = (h.0, each_join P a b h.1 k)
-
 -- nothing of the list comes after its greatest one
 pub none_after_top : (vs : List Version) (t : TopOf vs) → NoneAfter t.top vs
-none_after_top vs t = subst (NoneAfter t.top) (sym t.parts) (each_join (λ v. is_before t.top v ≡ false) t.front (t.top ∷ t.rest) (flip_all t.top t.front t.before) (before-self t.top, t.after))
+none_after_top vs t = subst (NoneAfter t.top) (sym t.parts) (all_append (λ v. is_before t.top v ≡ false) t.front (t.top ∷ t.rest) (flip_all t.top t.front t.before) (is_before-irrefl t.top, t.after))
 
 pub top_of : (v : Version) (vs : List Version) → TopOf (v ∷ vs)
 top_of v [] = record { front = []; top = v; rest = []; parts = refl; before = tt; after = tt }

@@ -5,48 +5,21 @@ use Rattle.std.proofs.lemmas.Bool.{cases_Bool, or_cases, or_left, or_right, and_
 use Rattle.std.proofs.lemmas.Bool.Decides.{nat_tests}
 use Rattle.std.proofs.lemmas.List.Elements.{filter-append, recursion_from_All}
 use Rattle.std.proofs.lemmas.List.Folds.{list_any_at}
+use Rattle.ag_lists.proofs.Filters.{all_filter, all_passed, filter_none}
+use Rattle.ag_lists.proofs.Each.{all_map, all_split, all_both}
 use Rattle.ag_model.specs.declared.value.Row.TheVariants.{Absent}
 use Rattle.ag_model.specs.declared.value.Change.{Change}
 use Rattle.ag_model.specs.declared.value.Change.TheVariants.{Put, Del}
 use Rattle.ag_model.specs.declared.value.Version.{Version}
 use Rattle.ag_model.specs.Page.{is_before, is_committed_at, is_del, is_trimmed_at, untrimmed, greatest, row_of, row_of_first}
 use Rattle.ag_version.specs.Trimming.{follows, is_followed}
-use Rattle.ag_version.proofs.Lists.{filter-comm, each_weaker}
-use Rattle.ag_version.proofs.Untrimmed.{is_gone}
+use Rattle.ag_version.proofs.Lists.{filter-comm}
+use Rattle.ag_version.proofs.Untrimmed.{is_gone, each_one, IsOneOf}
 use Rattle.ag_law_picks.proofs.Tops.{top_of, greatest-at, none_after_top, none_any, Rise, Rise-filter, above-rest}
 
 -- whether a version is of the key and committed at most at the snapshot
 abbrev pub is_seen : ℕ → ℕ → Version → Bool
 is_seen key n w = eqb w.key key && is_committed_at n w
-
--- what holds of each element of a list holds of each of a filter
-pub each_filter : (P : Version → Type 0) (p : Version → Bool) (vs : List Version) → AllByRecursion P vs → AllByRecursion P (filter p vs)
-each_filter P p [] h = tt
-each_filter P p (v ∷ vs) h = by_case (p v) v vs h.0 (each_filter P p vs h.1)
-  where
-    by_case : (b : Bool) (v : Version) (vs : List Version) → P v → AllByRecursion P (filter p vs) → AllByRecursion P (cond b (v ∷ filter p vs) (filter p vs))
-    by_case true v vs x h = (x, h)
-    by_case false v vs x h = h
-
-pub each_passes : (p : Version → Bool) (vs : List Version) → AllByRecursion (λ v. p v ≡ true) (filter p vs)
-each_passes p [] = tt
-each_passes p (v ∷ vs) = by_case (p v) v vs refl (each_passes p vs)
-  where
-    by_case : (b : Bool) (v : Version) (vs : List Version) → p v ≡ b → AllByRecursion (λ w. p w ≡ true) (filter p vs) → AllByRecursion (λ w. p w ≡ true) (cond b (v ∷ filter p vs) (filter p vs))
-    by_case true v vs x h = (x, h)
-    by_case false v vs x h = h
-
-pub each_left : (P : Version → Type 0) (a b : List Version) → AllByRecursion P (a ++ b) → AllByRecursion P a × AllByRecursion P b
-each_left P [] b h = (tt, h)
-each_left P (x ∷ a) b h = (let r = each_left P a b h.1 in ((h.0, r.0), r.1))
-
-pub each_both : (P Q : Version → Type 0) (vs : List Version) → AllByRecursion P vs → AllByRecursion Q vs → AllByRecursion (λ v. P v × Q v) vs
-each_both P Q [] h k = tt
-each_both P Q (v ∷ vs) h k = ((h.0, k.0), each_both P Q vs h.1 k.1)
-
-pub filter-none : (p : Version → Bool) (vs : List Version) → AllByRecursion (λ v. p v ≡ false) vs → filter p vs ≡ []
-filter-none p [] h = refl
-filter-none p (v ∷ vs) h = (let e = h.0 in rw e (filter-none p vs h.1))
 
 any_in_filter : (p q c : Version → Bool) → ((w : Version) → p w ≡ true → (c w ≡ true) × (q w ≡ true)) → (vs : List Version) → list_any p vs ≡ true → list_any q (filter c vs) ≡ true
 any_in_filter p q c f [] e = absurd (false≢true e)
@@ -58,13 +31,6 @@ any_in_filter p q c f (w ∷ vs) e = elim (or_cases (p w) (list_any p vs) e) [
     by_case : (b : Bool) (w : Version) → list_any q (filter c vs) ≡ true → list_any q (cond b (w ∷ filter c vs) (filter c vs)) ≡ true
     by_case true w h = or_right (q w) (list_any q (filter c vs)) h
     by_case false w h = h
-
--- a version of the list makes each test of it true
-abbrev IsOneOf : List Version → Version → Type 0
-IsOneOf all w = (p : Version → Bool) → p w ≡ true → list_any p all ≡ true
-
-each_one : (all : List Version) → AllByRecursion (IsOneOf all) all
-each_one all = recursion_from_All (IsOneOf all) all (λ k d lt p e. list_any_at p all k d lt e)
 
 -- what follows a seen version by a horizon up to the snapshot is seen too, and comes after it
 follower-seen : (key n h : ℕ) (g w : Version) → is_seen key n g ≡ true → h ≤ n → follows h g w ≡ true → (is_seen key n w ≡ true) × (is_before g w ≡ true)
@@ -123,8 +89,8 @@ trims-leave key n hs all low rising =
         let g = t.top in
         let facts : AllByRecursion (λ v. IsOneOf all v × (is_seen key n v ≡ true)) (t.front ++ g ∷ t.rest) =
         subst (AllByRecursion (λ v. IsOneOf all v × (is_seen key n v ≡ true))) (e ∙ t.parts)
-        (each_both (IsOneOf all) (λ v. is_seen key n v ≡ true) (filter (is_seen key n) all) (each_filter (IsOneOf all) (is_seen key n) all (each_one all)) (each_passes (is_seen key n) all)) in
-        let split = each_left (λ v. IsOneOf all v × (is_seen key n v ≡ true)) t.front (g ∷ t.rest) facts in
+        (all_both (IsOneOf all) (λ v. is_seen key n v ≡ true) (filter (is_seen key n) all) (all_filter (IsOneOf all) (is_seen key n) all (each_one all)) (all_passed (is_seen key n) all)) in
+        let split = all_split (λ v. IsOneOf all v × (is_seen key n v ≡ true)) t.front (g ∷ t.rest) facts in
         let own = split.1.0 in
         let rises : Rise 0 (t.front ++ g ∷ t.rest) = subst (Rise 0) (e ∙ t.parts) (Rise-filter (is_seen key n) 0 all rising) in
         let later = above-rest 0 t.front g t.rest rises in
@@ -135,15 +101,15 @@ trims-leave key n hs all low rising =
           | inr stays ↦
               let kept : filter p (g ∷ t.rest) ≡ g ∷ filter p t.rest = (let k : p g ≡ true = not_from_false (is_gone hs all g) stays in rw k refl) in
               ap (λ (z : List Version). row_of_first (greatest z)) (left ∙ ap (λ (z : List Version). filter p t.front ++ z) kept)
-              ∙ ap row_of_first (greatest-at (filter p t.front) g (filter p t.rest) (each_filter (λ v. is_before v g ≡ true) p t.front t.before) (each_filter (λ v. is_before g v ≡ false) p t.rest t.after))
+              ∙ ap row_of_first (greatest-at (filter p t.front) g (filter p t.rest) (all_filter (λ v. is_before v g ≡ true) p t.front t.before) (all_filter (λ v. is_before g v ≡ false) p t.rest t.after))
               ∙ sym whole
           | inl gone ↦
               let last : list_any (is_before g) (filter (is_seen key n) all) ≡ false = ap (list_any (is_before g)) e ∙ none_any (is_before g) (s ∷ ss) (none_after_top (s ∷ ss) t) in
               let why = why_gone key n hs all g low own.1 last gone in
               let none : (v : Version) → is_gone hs all v ≡ true → p v ≡ false = λ v h. not_from_true (is_gone hs all v) h in
-              let fronts : AllByRecursion (λ v. p v ≡ false) t.front = each_weaker (λ v. (is_before v g ≡ true) × (IsOneOf all v × (is_seen key n v ≡ true))) (λ v. p v ≡ false) (λ v h. none v (gone-too key n why.0 hs all g v why.1 why.2 own.0 own.1 h.1.1 h.0)) t.front (each_both (λ v. is_before v g ≡ true) (λ v. IsOneOf all v × (is_seen key n v ≡ true)) t.front t.before split.0) in
-              let rests : AllByRecursion (λ v. p v ≡ false) t.rest = each_weaker (λ v. ((g.lsn < v.lsn) × (is_before g v ≡ false)) × (IsOneOf all v × (is_seen key n v ≡ true))) (λ v. p v ≡ false) (λ v h. none v (gone-too key n why.0 hs all g v why.1 why.2 own.0 own.1 h.1.1 (before-turned g v h.0.0 h.0.1))) t.rest
-              (each_both (λ v. (g.lsn < v.lsn) × (is_before g v ≡ false)) (λ v. IsOneOf all v × (is_seen key n v ≡ true)) t.rest (each_both (λ v. g.lsn < v.lsn) (λ v. is_before g v ≡ false) t.rest later t.after) split.1.1) in
-              let empty : filter p (s ∷ ss) ≡ [] = left ∙ ap (λ (z : List Version). z ++ filter p (g ∷ t.rest)) (filter-none p t.front fronts) ∙ filter-none p (g ∷ t.rest) (none g gone, rests) in
+              let fronts : AllByRecursion (λ v. p v ≡ false) t.front = all_map (λ v. (is_before v g ≡ true) × (IsOneOf all v × (is_seen key n v ≡ true))) (λ v. p v ≡ false) (λ v h. none v (gone-too key n why.0 hs all g v why.1 why.2 own.0 own.1 h.1.1 h.0)) t.front (all_both (λ v. is_before v g ≡ true) (λ v. IsOneOf all v × (is_seen key n v ≡ true)) t.front t.before split.0) in
+              let rests : AllByRecursion (λ v. p v ≡ false) t.rest = all_map (λ v. ((g.lsn < v.lsn) × (is_before g v ≡ false)) × (IsOneOf all v × (is_seen key n v ≡ true))) (λ v. p v ≡ false) (λ v h. none v (gone-too key n why.0 hs all g v why.1 why.2 own.0 own.1 h.1.1 (before-turned g v h.0.0 h.0.1))) t.rest
+              (all_both (λ v. (g.lsn < v.lsn) × (is_before g v ≡ false)) (λ v. IsOneOf all v × (is_seen key n v ≡ true)) t.rest (all_both (λ v. g.lsn < v.lsn) (λ v. is_before g v ≡ false) t.rest later t.after) split.1.1) in
+              let empty : filter p (s ∷ ss) ≡ [] = left ∙ ap (λ (z : List Version). z ++ filter p (g ∷ t.rest)) (filter_none p t.front fronts) ∙ filter_none p (g ∷ t.rest) (none g gone, rests) in
               ap (λ (z : List Version). row_of_first (greatest z)) empty ∙ sym (whole ∙ row-deleted g.change why.1.0)
         ]

@@ -3,7 +3,7 @@ use Rattle.std.specs.Prelude.{if◌then◌else◌}
 use Rattle.std.proofs.Common.{◌≡◌, ◌≢◌, ℕ, ◌+◌, ◌<◌, ◌≤◌, List, [], ◌∷◌, ◌++◌, map, Bool, true, false, refl, sym, ap, ◌∙◌, subst, arith, append_assoc}
 use Rattle.std.specs.Prelude.{◌==◌, ◌||◌, not, nat_lt}
 use Rattle.std.specs.List.{AllByRecursion, filter, list_any}
-use Rattle.std.proofs.lemmas.Bool.{eqb-true, eqb-false, or_parts, false≢true}
+use Rattle.std.proofs.lemmas.Bool.{eqb-true, eqb-false, or_parts, false≢true, or_right, or_from}
 use Rattle.std.proofs.lemmas.List.Folds.{list_any-append}
 use Rattle.std.proofs.lemmas.List.{append-nil}
 use Rattle.ag_model.specs.declared.record.Record.{Record}
@@ -18,8 +18,8 @@ use Rattle.ag_rules.specs.PutEvent.{record_of}
 use Rattle.ag_rules.specs.CommitEvent.{end_record}
 use Rattle.ag_rules.specs.SetEvent.{records_of_set, pages_of_pairs}
 use Rattle.ag_rules.specs.Promotion.{promotion_records, abort_of}
-use Rattle.ag_laws.proofs.Plans.{by_bool, if_has}
-use Rattle.ag_laws.proofs.Lists.{all_map}
+use Rattle.ag_lists.proofs.Tests.{by_bool, if_has}
+use Rattle.ag_lists.proofs.Each.{all_map}
 use Rattle.ag_law_proper.specs.Growth.{Lead, Steps, Same, Hardens, Opens, Changes, Closes, Ends, Sets, Trims, is_open_in, closed, with_whole, longer_by, opened}
 use Rattle.ag_law_proper.specs.Law.{Law}
 use Rattle.ag_law_proper.specs.Places.{EachPlace}
@@ -44,26 +44,19 @@ less_after pages front (Abort t ps) back more p = ((or_parts _ _ (sym (list_any-
 less_after pages front (Trim q h) back more p = tt
 less_after pages front (Term t) back more p = tt
 
-both_false : (a b : Bool) → a ≡ false → b ≡ false → (a || b) ≡ false
-both_false a b p q = ap (λ c. c || b) p ∙ q
-
 -- no record of these is of a transaction that has ended
 abbrev LeaveEnded : List Record → List Record → Type 0
 LeaveEnded log new = (v : ℕ) → list_any (is_end_of v) log ≡ true → list_any (is_of v) new ≡ false
 
-or_true : (a b : Bool) → b ≡ true → (a || b) ≡ true
-or_true true b e = refl
-or_true false b e = e
-
 ended_at : (v : ℕ) (front : List Record) (r : Record) (back log : List Record) → log ≡ front ++ r ∷ back → is_end_of v r ≡ true → list_any (is_end_of v) log ≡ true
 ended_at v front r back log e is =
-    ap (list_any (is_end_of v)) e ∙ list_any-append (is_end_of v) front (r ∷ back) ∙ or_true (list_any (is_end_of v) front) (is_end_of v r || list_any (is_end_of v) back) (ap (λ b. b || list_any (is_end_of v) back) is)
+    ap (list_any (is_end_of v)) e ∙ list_any-append (is_end_of v) front (r ∷ back) ∙ or_right (list_any (is_end_of v) front) (is_end_of v r || list_any (is_end_of v) back) (ap (λ b. b || list_any (is_end_of v) back) is)
 
 more_after : (pages : ℕ) (log new front : List Record) (r : Record) (back : List Record) → LeaveEnded log new → log ≡ front ++ r ∷ back → EndPlace pages front r back → EndPlace pages front r (back ++ new)
 more_after pages log new front (Put t k v) back leave e p = tt
 more_after pages log new front (Del t k) back leave e p = tt
-more_after pages log new front (Commit t ps) back leave e p = (list_any-append (is_of t) back new ∙ both_false _ _ p.0 (leave t (ended_at t front (Commit t ps) back log e (eqb_same t))), p.1)
-more_after pages log new front (Abort t ps) back leave e p = (list_any-append (is_of t) back new ∙ both_false _ _ p.0 (leave t (ended_at t front (Abort t ps) back log e (eqb_same t))), p.1)
+more_after pages log new front (Commit t ps) back leave e p = (list_any-append (is_of t) back new ∙ or_from _ _ p.0 (leave t (ended_at t front (Commit t ps) back log e (eqb_same t))), p.1)
+more_after pages log new front (Abort t ps) back leave e p = (list_any-append (is_of t) back new ∙ or_from _ _ p.0 (leave t (ended_at t front (Abort t ps) back log e (eqb_same t))), p.1)
 more_after pages log new front (Trim q h) back leave e p = tt
 more_after pages log new front (Term t) back leave e p = tt
 
@@ -83,7 +76,7 @@ one_more pages log r leave here all = each_one (EndPlace pages) log r (λ front 
 
 -- an end by one more record
 any_one : (p : Record → Bool) (log : List Record) (r : Record) → list_any p log ≡ false → p r ≡ false → list_any p (log ++ r ∷ []) ≡ false
-any_one p log r old new = list_any-append p log (r ∷ []) ∙ both_false _ _ old (ap (λ b. b || false) new)
+any_one p log r old new = list_any-append p log (r ∷ []) ∙ or_from _ _ old (ap (λ b. b || false) new)
 
 change_txn : (txn key : ℕ) (c : Change) → txn_of (record_of txn key c) ≡ txn ∷ []
 change_txn txn key (PutChange v) = refl
@@ -114,7 +107,7 @@ still_open : (u txn : ℕ) (ts : List OpenTxn) → is_open_in u (filter (λ t. n
 still_open u txn [] e = absurd (cc)
 still_open u txn (t ∷ ts) e =
     by_bool (t.txn == txn) (λ b. (t.txn == txn) ≡ b → is_open_in u (if not b then t ∷ filter (λ t. not (t.txn == txn)) ts else filter (λ t. not (t.txn == txn)) ts) ≡ true → (((t.txn == u) || is_open_in u ts) ≡ true) × (u ≢ txn))
-    (λ _ q h. let more : (is_open_in u ts ≡ true) × (u ≢ txn) = still_open u txn ts h in (or_true (t.txn == u) (is_open_in u ts) more.0, more.1))
+    (λ _ q h. let more : (is_open_in u ts ≡ true) × (u ≢ txn) = still_open u txn ts h in (or_right (t.txn == u) (is_open_in u ts) more.0, more.1))
     (λ _ q h.
     by_bool (t.txn == u) (λ b. (t.txn == u) ≡ b → (b || is_open_in u (filter (λ t. not (t.txn == txn)) ts)) ≡ true → ((b || is_open_in u ts) ≡ true) × (u ≢ txn))
     (λ _ same _. (refl, λ e. eqb-false t.txn txn q (eqb-true t.txn u same ∙ e)))
@@ -156,8 +149,8 @@ no_end : (v : ℕ) (log : List Record) → list_any (is_of v) log ≡ false → 
 no_end v [] e = refl
 no_end v (Put t k x ∷ log) e = no_end v log (or_parts _ _ e).1
 no_end v (Del t k ∷ log) e = no_end v log (or_parts _ _ e).1
-no_end v (Commit t ps ∷ log) e = let q : (((v == t) || false) ≡ false) × (list_any (is_of v) log ≡ false) = or_parts _ _ e in both_false (v == t) (list_any (is_end_of v) log) (or_parts _ _ q.0).0 (no_end v log q.1)
-no_end v (Abort t ps ∷ log) e = let q : (((v == t) || false) ≡ false) × (list_any (is_of v) log ≡ false) = or_parts _ _ e in both_false (v == t) (list_any (is_end_of v) log) (or_parts _ _ q.0).0 (no_end v log q.1)
+no_end v (Commit t ps ∷ log) e = let q : (((v == t) || false) ≡ false) × (list_any (is_of v) log ≡ false) = or_parts _ _ e in or_from (v == t) (list_any (is_end_of v) log) (or_parts _ _ q.0).0 (no_end v log q.1)
+no_end v (Abort t ps ∷ log) e = let q : (((v == t) || false) ≡ false) × (list_any (is_of v) log ≡ false) = or_parts _ _ e in or_from (v == t) (list_any (is_end_of v) log) (or_parts _ _ q.0).0 (no_end v log q.1)
 no_end v (Trim q h ∷ log) e = no_end v log e
 no_end v (Term t ∷ log) e = no_end v log e
 
@@ -185,7 +178,7 @@ opened_knows pages a snapshot k = record {
 }
 
 -- the puts of one transaction
-abbrev puts : ℕ → List Pair → List Record
+abbrev pub puts : ℕ → List Pair → List Record
 puts txn pairs = map (λ (pair : Pair). Put txn pair.key pair.value) pairs
 
 puts_apart : (v txn : ℕ) (pairs : List Pair) → v ≢ txn → list_any (is_of v) (puts txn pairs) ≡ false
@@ -214,16 +207,16 @@ set_knows pages a pairs k =
     let commit : Record = Commit txn (pages_of_pairs pages pairs) in
     let leave : LeaveEnded a.log (puts txn pairs) = λ v ended. puts_apart v txn pairs (λ e. false≢true (sym open_ ∙ ap (λ x. list_any (is_end_of x) a.log) (sym e) ∙ ended)) in
     let one : EachPlace (EndPlace pages) first = each_append (EndPlace pages) a.log (puts txn pairs) (λ front x back e p. more_after pages a.log (puts txn pairs) front x back leave e p) (puts_place pages txn a.log pairs) k.each in
-    let still : list_any (is_end_of txn) first ≡ false = list_any-append (is_end_of txn) a.log (puts txn pairs) ∙ both_false _ _ open_ (puts_no_end txn txn pairs) in
+    let still : list_any (is_end_of txn) first ≡ false = list_any-append (is_end_of txn) a.log (puts txn pairs) ∙ or_from _ _ open_ (puts_no_end txn txn pairs) in
     record {
       each = subst (EachPlace (EndPlace pages)) (append_assoc a.log (puts txn pairs) (commit ∷ []))
           (one_more pages first commit (leave_one first commit txn refl still) (refl, pages_of_set pages txn a.log pairs unused) one);
       unended = λ u h.
           let low : u ≤ a.last_txn = k.known u h in
-          list_any-append (is_end_of u) a.log (puts txn pairs ++ commit ∷ []) ∙ both_false _ _ (k.unended u h) (any_one (is_end_of u) (puts txn pairs) commit (puts_no_end u txn pairs) (apart u txn (λ e. omega (arith, low, e))));
+          list_any-append (is_end_of u) a.log (puts txn pairs ++ commit ∷ []) ∙ or_from _ _ (k.unended u h) (any_one (is_end_of u) (puts txn pairs) commit (puts_no_end u txn pairs) (apart u txn (λ e. omega (arith, low, e))));
       fresh = λ u h.
           let far : u ≢ txn = λ e. omega (arith, h, e) in
-          list_any-append (is_of u) a.log (puts txn pairs ++ commit ∷ []) ∙ both_false _ _ (k.fresh u (omega (arith, h))) (any_one (is_of u) (puts txn pairs) commit (puts_apart u txn pairs far) (ap (λ b. b || false) (apart u txn far)));
+          list_any-append (is_of u) a.log (puts txn pairs ++ commit ∷ []) ∙ or_from _ _ (k.fresh u (omega (arith, h))) (any_one (is_of u) (puts txn pairs) commit (puts_apart u txn pairs far) (ap (λ b. b || false) (apart u txn far)));
       known = λ u h. let low : u ≤ a.last_txn = k.known u h in omega (arith, low);
     }
 
@@ -278,13 +271,13 @@ taken_knows pages term log all =
           (λ x. sym (pages_quiet pages x log (Term term ∷ []) (refl, tt)))
           (one_more pages log (Term term) (leave_none log (Term term) refl) tt all));
       unended = λ u h. absurd (false≢true h);
-      fresh = λ v h. list_any-append (is_of v) log (Term term ∷ aborts) ∙ both_false _ _ (none_of (last_txn log) v log h (all_low log)) (low v h);
+      fresh = λ v h. list_any-append (is_of v) log (Term term ∷ aborts) ∙ or_from _ _ (none_of (last_txn log) v log h (all_low log)) (low v h);
       known = λ u h. absurd (false≢true h);
     })
     (λ _. record {
       each = aborts_place pages log log ts (open_sorted log) (open_unended log) (λ x. refl) all;
       unended = λ u h. absurd (false≢true h);
-      fresh = λ v h. list_any-append (is_of v) log aborts ∙ both_false _ _ (none_of (last_txn log) v log h (all_low log)) (low v h);
+      fresh = λ v h. list_any-append (is_of v) log aborts ∙ or_from _ _ (none_of (last_txn log) v log h (all_low log)) (low v h);
       known = λ u h. absurd (false≢true h);
     })
 

@@ -1,8 +1,7 @@
 -- What each event makes of the logs of the group.
-use Rattle.std.proofs.Common.{◌≡◌, ◌≢◌, ℕ, ◌+◌, ◌-◌, ◌<◌, List, [], ◌∷◌, ◌++◌, length, take, drop, zero, suc, ◌≤◌, inl, true, false, Bool, refl, sym, ap, ◌∙◌, subst, arith, length-set}
+use Rattle.std.proofs.Common.{◌≡◌, ◌≢◌, ℕ, ◌+◌, ◌-◌, ◌<◌, List, [], ◌∷◌, ◌++◌, length, take, drop, inl, true, false, Bool, refl, sym, ap, ◌∙◌, subst, arith, length-set}
 use Rattle.std.specs.Prelude.{Option, Some, None, slice_get, ◌==◌, ◌&&◌, not}
-use Rattle.std.specs.List.{filter, range_with_len}
-use Rattle.std.proofs.lemmas.Bool.{eqb-false, false≢true, ltb-false, and_parts}
+use Rattle.std.proofs.lemmas.Bool.{eqb-false, false≢true, ltb-false}
 use Rattle.std.proofs.lemmas.List.{get_or-set_other}
 use Rattle.ag_model.specs.declared.event.Suffix.{Suffix}
 use Rattle.ag_model.specs.declared.event.Who.{Who}
@@ -16,7 +15,7 @@ use Rattle.ag_model.specs.declared.answer.Answer.{Answer}
 use Rattle.ag_model.specs.declared.answer.Answer.TheVariants.{Resumed, Synchronised, TimedOut, Lost}
 use Rattle.ag_model.specs.declared.answer.Refusal.TheVariants.{Nothing}
 use Rattle.ag_rules.specs.Replica.{Replica, records, stepped_down}
-use Rattle.ag_rules.specs.Group.{Group, replica, link, is_full, nobody, has, with_member, without_member}
+use Rattle.ag_rules.specs.Group.{Group, replica, link, is_full, nobody, with_member, without_member}
 use Rattle.ag_rules.specs.Plan.{Here, Part, Plan, Check, here, unless, refused, at_once, at_node, at_node_after, is_refusal}
 use Rattle.ag_rules.specs.Cut.{cut}
 use Rattle.ag_rules.specs.Checks.{is_down}
@@ -24,17 +23,20 @@ use Rattle.ag_rules.specs.CutEvent.{told}
 use Rattle.ag_rules.specs.ResumeEvent.{plan_of_resume, checks_of_resume, with_resumed}
 use Rattle.ag_rules.specs.SyncEvent.{plan_of_sync, plan_of_timeout, checks_of_sync, checks_of_timeout, with_synced, without_synced, disconnected}
 use Rattle.ag_rules.specs.DeliverEvent.{plan_of_deliver, plan_of_message, delivered, taken, leaves, plan_of_lose, plan_of_loss}
-use Rattle.ag_rules.specs.Failover.{failover, failover_checks, failover_records, group_moved, old_primary, takes_over, target, plan_of_planned, plan_of_force, plan_of_auto, plan_to_first, primary_serves, targets, is_target, has_mode_auto, moved, moved_by_force, checks_of_planned, checks_of_force}
+use Rattle.ag_rules.specs.Failover.{failover, failover_checks, failover_records, group_moved, old_primary, takes_over, target, plan_of_planned, plan_of_force, plan_of_auto, plan_to_first, primary_serves, targets, moved, moved_by_force, checks_of_planned, checks_of_force}
 use Rattle.ag_rules.specs.Promotion.{promotion_records, blocks_of}
 use Rattle.ag_rules.specs.Next.{named, apart, plan_of, suffix_of, done, token}
 use Rattle.ag_rules.specs.Script.{IsWho, IsEvent}
+use Rattle.ag_lists.proofs.Tests.{if_has}
+use Rattle.ag_lists.proofs.Places.{at_set}
+use Rattle.ag_lists.proofs.Each.{all_append, all_take, all_drop, all_get}
 use Rattle.ag_laws.specs.Logs.{Setting, Logs}
 use Rattle.ag_laws.specs.At.{At}
 use Rattle.ag_laws.specs.Fits.{MessageFits}
 use Rattle.ag_laws.specs.Good.{Good}
-use Rattle.ag_laws.proofs.Plans.{if_has, unless_has, Passes}
-use Rattle.ag_laws.proofs.Lists.{at_set, all_append, all_take, all_drop, all_get}
+use Rattle.ag_laws.proofs.Plans.{unless_has, Passes}
 use Rattle.ag_laws.proofs.Events.{named_there}
+use Rattle.ag_laws.proofs.Store.{FirstIs, targets_first}
 use Rattle.ag_law_proper.specs.Growth.{Told, LogFits, LeadGoes, Follows}
 use Rattle.ag_law_proper.proofs.Parts.{PartGoes, lead_same, same_goes, at_once_goes, checked_goes}
 use Rattle.ag_law_proper.proofs.LeadingGoes.{begin_goes, get_goes, put_goes, end_goes, set_goes, trim_goes, ack_event_goes, raise_goes, apply_goes}
@@ -183,27 +185,6 @@ force_goes s logs known g n suffix good links h =
     failover_goes s logs known g n (moved_by_force g.register n (length g.config.modes)) (checks_of_force (here g n) (replica g n)) suffix good links h refl
     (λ p e. eqb-false g.register.primary n p.0 (sym e))
 
--- the first of the targets of `auto`
-record Target (g : Group) (n : ℕ) : Type 0 where
-  there : n < length g.config.modes
-  apart : n ≢ g.register.primary
-
-abbrev FirstIs : Group → List ℕ → Type 0
-FirstIs g [] = Unit {0}
-FirstIs g (n ∷ ns) = Target g n
-
-target_is : (g : Group) (n : ℕ) → primary_serves g ≡ false → n < length g.config.modes → is_target g n ≡ true → Target g n
-target_is g n serves h t =
-    let a : (((replica g n).up && not (replica g n).cut_off) ≡ true) × ((has_mode_auto g n && has g.register.synced n) ≡ true) = and_parts _ _ t in
-    record { there = h; apart = λ e. false≢true (sym serves ∙ ap (λ (m : ℕ). (replica g m).up && not (replica g m).cut_off) (sym e) ∙ a.0) }
-
-first_target : (g : Group) (from count : ℕ) → primary_serves g ≡ false → from + count ≤ length g.config.modes → FirstIs g (filter (is_target g) (range_with_len from count))
-first_target g from zero serves h = tt
-first_target g from (suc count) serves h =
-    if_has (FirstIs g) (is_target g from) (from ∷ filter (is_target g) (range_with_len (from + 1) count)) (filter (is_target g) (range_with_len (from + 1) count))
-    (λ t. target_is g from serves (omega arith) t)
-    (λ _. first_target g (from + 1) count serves (omega arith))
-
 first_goes : (s : Setting) (logs : Logs) (known : Told) (g : Group) (ns : List ℕ) (suffix : Suffix) → Good s logs g → AllTold known g → 0 < length g.replicas → length g.config.modes ≡ length g.replicas → FirstIs g ns → GroupGoes logs known g (cut suffix (plan_to_first g ns)).after
 first_goes s logs known g [] suffix good links h count p = unchanged logs known g 0 _ suffix links h
 first_goes s logs known g (n ∷ ns) suffix good links h count p =
@@ -216,8 +197,7 @@ auto_goes s logs known g suffix good links =
     let h : 0 < length g.replicas = omega (arith, good.there) in
     if_has (λ (p : Plan). GroupGoes logs known g (cut suffix p).after) (primary_serves g) _ _
     (λ _. unchanged logs known g 0 _ suffix links h)
-    (λ f. first_goes s logs known g (targets g) suffix good links h count
-    (if_has (FirstIs g) (has_mode_auto g g.register.primary) (filter (is_target g) (range_with_len 0 (length g.config.modes))) [] (λ _. first_target g 0 (length g.config.modes) f (omega arith)) (λ _. tt)))
+    (λ f. first_goes s logs known g (targets g) suffix good links h count (targets_first g f))
 
 plan_goes : (s : Setting) (logs : Logs) (known : Told) (g : Group) (e : Event) → Good s logs g → AllTold known g → IsEvent s.config e → GroupGoes logs known g (cut (suffix_of e) (plan_of g e)).after
 plan_goes s logs known g (Begin w suffix) good links is = one s logs known g w suffix _ good links is (λ at. begin_goes logs known g.config.pages _ _)

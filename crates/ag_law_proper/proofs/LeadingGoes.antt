@@ -22,8 +22,8 @@ use Rattle.ag_rules.specs.AckEvent.{ack_part, checks_of_ack, late}
 use Rattle.ag_rules.specs.ApplyEvent.{apply_part, checks_of_apply, applied_one, next_of_stripe, touched_in_stripe, due_in_stripe}
 use Rattle.ag_rules.specs.RaiseEvent.{raise_part, checks_of_raise, raised}
 use Rattle.ag_rules.specs.Redo.{notes_of, installs_of, installed}
+use Rattle.ag_lists.proofs.Each.{all_append}
 use Rattle.ag_laws.specs.Logs.{Logs}
-use Rattle.ag_laws.proofs.Lists.{all_append}
 use Rattle.ag_laws.proofs.Steps.{IsSmall}
 use Rattle.ag_laws.proofs.Disks.{notes_are_small, installs_are_small}
 use Rattle.ag_law_proper.specs.Growth.{lead_of, Leads, Opens, Changes, Closes, Ends, Sets, Trims, PairsFit, free_on, Told, closed}

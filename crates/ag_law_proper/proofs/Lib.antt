@@ -3,7 +3,6 @@ pub mod LeadingGoes
 pub mod RestGoes
 pub mod MessageGoes
 pub mod TakesGoes
-pub mod Stops
 pub mod Lifts
 pub mod Events
 pub mod Runs

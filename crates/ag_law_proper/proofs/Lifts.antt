@@ -11,14 +11,14 @@ use Rattle.ag_rules.specs.Group.{Group, replica, with_replica, link, with_link, 
 use Rattle.ag_rules.specs.Plan.{Part, Posting, posted, at_node}
 use Rattle.ag_rules.specs.Cut.{cut}
 use Rattle.ag_rules.specs.Next.{at_session}
+use Rattle.ag_lists.proofs.Places.{at_set}
+use Rattle.ag_lists.proofs.Each.{all_map, all_append}
 use Rattle.ag_laws.specs.Logs.{Logs}
-use Rattle.ag_laws.proofs.Lists.{at_set, all_map, all_append}
-use Rattle.ag_laws.proofs.Groups.{replicas_posted}
-use Rattle.ag_laws.proofs.Cuts.{cut_has}
+use Rattle.ag_laws.proofs.Groups.{replicas_posted, config_posted}
+use Rattle.ag_laws.proofs.Cuts.{cut_has, stop_has, fail_has}
 use Rattle.ag_laws.proofs.Disks.{SameCore}
 use Rattle.ag_law_proper.specs.Growth.{Told, LogGoes, LeadGoes, Follows, Posts}
 use Rattle.ag_law_proper.proofs.Parts.{PartGoes, lead_same}
-use Rattle.ag_law_proper.proofs.Stops.{stop_has, fail_has}
 
 -- what is known of each message in flight
 abbrev pub AllTold : Told → Group → Type 0
@@ -60,10 +60,6 @@ posted_links Q n (p ∷ ps) g old new =
     posted_links Q n ps (with_link g n p.to (link g n p.to ++ p.message ∷ []))
     (link_set Q g n p.to (link g n p.to ++ p.message ∷ []) old (all_append (Q n) (link g n p.to) (p.message ∷ []) (old n p.to) (new.0, tt))) new.1
 
-posted_config : (n : ℕ) (ps : List Posting) (g : Group) → (posted n ps g).config ≡ g.config
-posted_config n [] g = refl
-posted_config n (p ∷ ps) g = posted_config n ps (with_link g n p.to (link g n p.to ++ p.message ∷ []))
-
 -- replica n is set
 placed : (logs : Logs) (told : Told) (g base after : Group) (n : ℕ) (r : Replica) → Based told g base n → after.replicas ≡ set base.replicas n r → after.config ≡ base.config → LogGoes logs told g.config.pages (replica base n) r.kept.log → LeadGoes g.config.pages (replica base n) r
     → ((a b : ℕ) → AllByRecursion (λ m. told m ⊎ Posts told (replica g a) m) (link after a b)) → GroupGoes logs told g after
@@ -100,7 +96,7 @@ fallen_goes logs told g base n k based log = placed logs told g base (with_repli
 -- the event whole
 whole_goes : (logs : Logs) (told : Told) (g base : Group) (n : ℕ) (part : Part) → Based told g base n → PartGoes logs told g.config.pages (replica base n) part → GroupGoes logs told g (at_node base n part).after
 whole_goes logs told g base n part based p =
-    placed logs told g base (posted n part.out (with_replica base n part.after)) n part.after based (replicas_posted n part.out (with_replica base n part.after)) (posted_config n part.out (with_replica base n part.after)) p.log p.lead
+    placed logs told g base (posted n part.out (with_replica base n part.after)) n part.after based (replicas_posted n part.out (with_replica base n part.after)) (config_posted n part.out (with_replica base n part.after)) p.log p.lead
     (posted_links (λ a m. told m ⊎ Posts told (replica g a) m) n part.out (with_replica base n part.after) (λ a b. old_links told g base a b based.links)
     (all_map (λ (q : Posting). Posts told (replica base n) q.message) (λ (q : Posting). told q.message ⊎ Posts told (replica g n) q.message) (λ q x. inr (subst (λ (y : Replica). Posts told y q.message) based.here x)) part.out p.out))
 

@@ -11,7 +11,7 @@ use Rattle.ag_model.specs.declared.config.TermStart.{TermStart}
 use Rattle.ag_model.specs.declared.answer.Answer.{Answer}
 use Rattle.ag_model.specs.declared.answer.Answer.TheVariants.{Installed, NoPage}
 use Rattle.ag_model.specs.declared.answer.Refusal.TheVariants.{Nothing}
-use Rattle.ag_rules.specs.Replica.{Replica, Master, end, peer, with_peer, page, with_page, applied_of, takes_foreign, is_bad, is_wanted}
+use Rattle.ag_rules.specs.Replica.{Replica, Master, end, peer, with_peer, page, with_page, applied_of, is_bad, is_wanted}
 use Rattle.ag_rules.specs.Plan.{Here, Posting, Write, Block_write, Master_write, written, all_written, each_synced, writing, at_once}
 use Rattle.ag_rules.specs.Messages.{ack_to}
 use Rattle.ag_rules.specs.SendEvent.{send_part, checks_of_send, sends, with_sent, block_to_send}
@@ -22,14 +22,15 @@ use Rattle.ag_rules.specs.BlockMessage.{block_part, cases_of_block, acks}
 use Rattle.ag_rules.specs.AckMessage.{ack_message_part, checks_of_ack_message, known_peer}
 use Rattle.ag_rules.specs.Checks.{of_other_term, link_is_full}
 use Rattle.ag_rules.specs.PageAskMessage.{page_ask_part}
-use Rattle.ag_rules.specs.PageGiveMessage.{page_give_part, comes, installs, holds, with_come, is_last, initialising}
-use Rattle.ag_rules.specs.Redo.{may_install, install_of, installed}
+use Rattle.ag_rules.specs.PageGiveMessage.{page_give_part, comes, with_come, is_last, initialising}
+use Rattle.ag_rules.specs.Redo.{install_of, installed}
 use Rattle.ag_rules.specs.DeliverEvent.{arrives}
+use Rattle.ag_lists.proofs.Tests.{if_has}
+use Rattle.ag_lists.proofs.Each.{all_append}
 use Rattle.ag_laws.specs.Logs.{Logs, Setting}
 use Rattle.ag_laws.specs.At.{At}
 use Rattle.ag_laws.specs.Fits.{IsAnswered, BlockFits, ResumeFits, BodyFits}
-use Rattle.ag_laws.proofs.Plans.{if_has, case_has, question_has, arrival_has}
-use Rattle.ag_laws.proofs.Lists.{all_append}
+use Rattle.ag_laws.proofs.Plans.{case_has, question_has, arrival_has}
 use Rattle.ag_laws.proofs.BlockKeeps.{same_term}
 use Rattle.ag_laws.proofs.Steps.{IsSmall}
 use Rattle.ag_laws.proofs.Disks.{install_is_small}

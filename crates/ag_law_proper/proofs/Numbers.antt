@@ -3,12 +3,12 @@ use Rattle.std.specs.Prelude.{if◌then◌else◌}
 use Rattle.std.proofs.Common.{◌≡◌, ◌≢◌, ℕ, ◌<◌, ◌≤◌, max, List, [], ◌∷◌, Bool, true, false, refl, ap, ◌∙◌, arith}
 use Rattle.std.specs.Prelude.{◌==◌, ◌||◌, not, nat_lt}
 use Rattle.std.specs.List.{AllByRecursion, filter, fold, flat_map, list_any}
-use Rattle.std.proofs.lemmas.Bool.{eqb-true, eqb-false, ltb-true, ltb-false, false≢true}
+use Rattle.std.proofs.lemmas.Bool.{eqb-true, eqb-false, ltb-true, ltb-false, not-true}
 use Rattle.ag_model.specs.declared.record.Record.{Record}
 use Rattle.ag_model.specs.declared.record.Record.TheVariants.{Put, Del, Commit, Abort, Trim, Term}
 use Rattle.ag_model.specs.Txns.{is_end_of, txn_of, last_txn, insert_rising, open_in}
-use Rattle.ag_laws.proofs.Plans.{by_bool, if_has}
-use Rattle.ag_laws.proofs.Lists.{all_map}
+use Rattle.ag_lists.proofs.Tests.{by_bool, if_has}
+use Rattle.ag_lists.proofs.Each.{all_map}
 use Rattle.ag_law_proper.specs.Ended.{is_of}
 
 -- each number is below all that come after it
@@ -52,15 +52,11 @@ all_of : (P : ℕ → Type 0) → ((x : ℕ) → P x) → (xs : List ℕ) → Al
 all_of P f [] = tt
 all_of P f (x ∷ xs) = (f x, all_of P f xs)
 
-not_true : (b : Bool) → not b ≡ true → b ≡ false
-not_true true e = absurd (false≢true e)
-not_true false e = refl
-
 -- none of them has ended
 pub open_unended : (log : List Record) → AllByRecursion (λ txn. list_any (is_end_of txn) log ≡ false) (open_in log)
 open_unended log =
     all_rising (λ txn. list_any (is_end_of txn) log ≡ false) [] (filter (λ txn. not (list_any (is_end_of txn) log)) (flat_map txn_of log)) tt
-    (all_filtered (λ txn. list_any (is_end_of txn) log ≡ false) (λ txn. not (list_any (is_end_of txn) log)) (flat_map txn_of log) (all_of _ (λ x e. not_true (list_any (is_end_of x) log) e) (flat_map txn_of log)))
+    (all_filtered (λ txn. list_any (is_end_of txn) log ≡ false) (λ txn. not (list_any (is_end_of txn) log)) (flat_map txn_of log) (all_of _ (λ x e. not-true (list_any (is_end_of x) log) e) (flat_map txn_of log)))
 
 -- the greatest number of some
 max_over : (a : ℕ) (xs : List ℕ) → (a ≤ fold max a xs) × AllByRecursion (λ x. x ≤ fold max a xs) xs

@@ -1,26 +1,23 @@
 -- The pages that a transaction touched, where its log goes on.
-use Rattle.std.proofs.Common.{◌≡◌, ℕ, List, [], ◌∷◌, ◌++◌, map, Bool, true, false, refl, sym, ap, ◌∙◌}
+use Rattle.std.proofs.Common.{◌≡◌, ℕ, List, [], ◌∷◌, ◌++◌, map, Bool, false, refl, sym, ap, ◌∙◌}
 use Rattle.std.specs.Prelude.{◌==◌, ◌||◌, ◌&&◌, if◌then◌else◌}
 use Rattle.std.specs.List.{AllByRecursion, filter, list_any}
 use Rattle.std.proofs.lemmas.Bool.{eqb-true, eqb-false}
 use Rattle.std.proofs.lemmas.List.Folds.{list_any-append}
+use Rattle.std.proofs.Math.Bool.{or-false}
 use Rattle.ag_model.specs.declared.record.Record.{Record}
 use Rattle.ag_model.specs.declared.record.Record.TheVariants.{Put, Del, Commit, Abort, Trim, Term}
 use Rattle.ag_model.specs.declared.event.Pair.{Pair}
 use Rattle.ag_model.specs.Rows.{touches, page_of, page_numbers}
 use Rattle.ag_model.specs.Txns.{is_change_of, pages_of}
 use Rattle.ag_rules.specs.SetEvent.{pages_of_pairs}
-use Rattle.ag_laws.proofs.Plans.{by_bool}
+use Rattle.ag_lists.proofs.Tests.{by_bool}
 use Rattle.ag_law_proper.specs.Ended.{is_of}
 use Rattle.ag_law_proper.proofs.Numbers.{apart, eqb_same}
 
 pub filter_same : (f g : ℕ → Bool) → ((x : ℕ) → f x ≡ g x) → (xs : List ℕ) → filter f xs ≡ filter g xs
 filter_same f g e [] = refl
 filter_same f g e (x ∷ xs) = ap (λ b. if b then x ∷ filter f xs else filter f xs) (e x) ∙ ap (λ l. if g x then x ∷ l else l) (filter_same f g e xs)
-
-or_false : (b : Bool) → (b || false) ≡ b
-or_false true = refl
-or_false false = refl
 
 -- changes of the transaction among records that are none
 none_changed : (txn : ℕ) (pages page : ℕ) (new : List Record) → AllByRecursion (λ r. is_change_of txn r ≡ false) new → list_any (λ r. is_change_of txn r && touches pages page r) new ≡ false
@@ -31,7 +28,7 @@ none_changed txn pages page (r ∷ new) p = ap (λ b. (b && touches pages page r
 pub pages_quiet : (pages txn : ℕ) (log new : List Record) → AllByRecursion (λ r. is_change_of txn r ≡ false) new → pages_of pages txn (log ++ new) ≡ pages_of pages txn log
 pages_quiet pages txn log new none =
     filter_same (λ page. list_any (λ r. is_change_of txn r && touches pages page r) (log ++ new)) (λ page. list_any (λ r. is_change_of txn r && touches pages page r) log)
-    (λ page. list_any-append (λ r. is_change_of txn r && touches pages page r) log new ∙ ap (λ b. list_any (λ r. is_change_of txn r && touches pages page r) log || b) (none_changed txn pages page new none) ∙ or_false _)
+    (λ page. list_any-append (λ r. is_change_of txn r && touches pages page r) log new ∙ ap (λ b. list_any (λ r. is_change_of txn r && touches pages page r) log || b) (none_changed txn pages page new none) ∙ or-false _)
     (page_numbers pages)
 
 -- a transaction with no record has changed nothing

@@ -11,10 +11,11 @@ use Rattle.ag_model.specs.Blocks.{cut_at}
 use Rattle.ag_rules.specs.Replica.{Replica, Kept, Master, end, image}
 use Rattle.ag_rules.specs.Plan.{Part, Posting, Write, Batch, Master_write, Note_write, written, all_written, each_synced, Check, unless, at_once, writing}
 use Rattle.ag_rules.specs.Access.{access, cases_of_access, pended, kind_of}
+use Rattle.ag_lists.proofs.Tests.{by_bool, if_has}
 use Rattle.ag_laws.specs.Logs.{Logs, Setting}
 use Rattle.ag_laws.specs.Ends.{EndsIn}
 use Rattle.ag_laws.specs.At.{At}
-use Rattle.ag_laws.proofs.Plans.{by_bool, if_has, unless_has, case_has, Passes}
+use Rattle.ag_laws.proofs.Plans.{unless_has, case_has, Passes}
 use Rattle.ag_laws.proofs.Steps.{IsSmall, IsBatch}
 use Rattle.ag_laws.proofs.Disks.{SameCore, small_some, small_all, each_batches}
 use Rattle.ag_laws.proofs.Blocks.{small_then, small_then_all}
@@ -88,7 +89,7 @@ ends_whole start len (e ∷ es) p =
           (λ f. absurd (omega (arith, leb-false e len f, q.0))),
     )
 
-log_is : (l : Log) (a : List Record) (es : List ℕ) → a ≡ l.records → es ≡ l.ends → record { records = a; ends = es } ≡ l
+pub log_is : (l : Log) (a : List Record) (es : List ℕ) → a ≡ l.records → es ≡ l.ends → record { records = a; ends = es } ≡ l
 log_is l a es p q = ap (λ x. record { records = x; ends = es }) p ∙ ap (λ x. record { records = l.records; ends = x }) q
 
 pub cut_whole : (l : Log) (n : ℕ) → n ≡ length l.records → EndsIn 0 l.ends (length l.records) → cut_at n l ≡ l

@@ -1,7 +1,6 @@
 -- Events that leave each log: reads, looks, redo, writes of pages, damage, what the store knows, and those that only ask.
-use Rattle.std.proofs.Common.{◌≡◌, ℕ, zero, suc, List, [], ◌∷◌, ◌++◌, length, map, take, Bool, false, refl, sym}
+use Rattle.std.proofs.Common.{◌≡◌, ℕ, List, [], ◌∷◌, ◌++◌, Bool, false, refl, sym}
 use Rattle.std.specs.Prelude.{◌==◌, not}
-use Rattle.std.specs.List.{AllByRecursion}
 use Rattle.ag_model.specs.declared.config.Token.{Token}
 use Rattle.ag_model.specs.declared.answer.Cell.{Cell}
 use Rattle.ag_model.specs.declared.answer.Answer.{Answer}
@@ -9,13 +8,13 @@ use Rattle.ag_model.specs.declared.answer.Answer.TheVariants.{Mended}
 use Rattle.ag_model.specs.declared.answer.Refusal.TheVariants.{Nothing}
 use Rattle.ag_model.specs.Rows.{page_of, rows}
 use Rattle.ag_rules.specs.Replica.{Replica, Kept, Master, records, end, page_value, fallen, stepped_down, each_page}
-use Rattle.ag_rules.specs.Plan.{Here, Batch, Master_write, written, batch_written, all_written, at_once}
+use Rattle.ag_rules.specs.Plan.{Here, Master_write, written, all_written, at_once}
 use Rattle.ag_rules.specs.Checks.{is_down, reverts, is_not_secondary}
 use Rattle.ag_rules.specs.ReadEvent.{read_part, view_part, checks_of_read, checks_of_view, reads_at, is_too_old, row_answer, snapshots_of, no_snapshot}
 use Rattle.ag_rules.specs.SnapEvent.{snap_part, has_snapshot, with_snapshot, close_part, without_snapshot}
 use Rattle.ag_rules.specs.Redo.{notes_of, installs_of, touched_up_to, due_pages, installed}
 use Rattle.ag_rules.specs.RedoEvent.{redo_part, checks_of_redo, redone_whole}
-use Rattle.ag_rules.specs.FlushEvent.{flush_part, checks_of_flush, flush_writes, by_eights, page_batch, pages_to_flush, flushed_master, cleaned}
+use Rattle.ag_rules.specs.FlushEvent.{flush_part, checks_of_flush, flush_writes, by_eights, pages_to_flush, flushed_master, cleaned}
 use Rattle.ag_rules.specs.FinishEvent.{finish_part, checks_of_finish, finished, finished_master}
 use Rattle.ag_rules.specs.ReportEvent.{report_part, checks_of_report}
 use Rattle.ag_rules.specs.LookEvent.{suspects_part, page_part, sectors_part, status_part}
@@ -23,13 +22,13 @@ use Rattle.ag_rules.specs.SpoilEvent.{spoil_part, unread_part, checks_of_damage,
 use Rattle.ag_rules.specs.AskEvent.{ask_part, checks_of_page_ask}
 use Rattle.ag_rules.specs.CutEvent.{cut_part, mend_part, told}
 use Rattle.ag_rules.specs.CrashEvent.{crash_part}
+use Rattle.ag_lists.proofs.Tests.{if_has}
+use Rattle.ag_lists.proofs.Each.{all_append}
 use Rattle.ag_laws.specs.Logs.{Logs, Setting}
-use Rattle.ag_laws.specs.Ends.{EndsIn}
 use Rattle.ag_laws.specs.At.{At}
-use Rattle.ag_laws.proofs.Plans.{if_has}
-use Rattle.ag_laws.proofs.Lists.{all_append}
-use Rattle.ag_laws.proofs.Steps.{IsSmall, IsBatch}
-use Rattle.ag_laws.proofs.Disks.{SameCore, core_trans, small_core, notes_are_small, installs_are_small}
+use Rattle.ag_laws.proofs.Steps.{IsSmall}
+use Rattle.ag_laws.proofs.Disks.{SameCore, notes_are_small, installs_are_small}
+use Rattle.ag_laws.proofs.Flushed.{flush_batches, flush_some, flush_all}
 use Rattle.ag_law_proper.specs.Growth.{Told, Stands, Follows, Plain}
 use Rattle.ag_law_proper.proofs.Parts.{PartGoes, lead_same, lead_core, quiet_goes, at_once_goes, same_goes, checked_goes, small_goes, access_goes, remaster_goes, mastered}
 
@@ -62,35 +61,6 @@ redo_goes logs told pages h r =
     (λ _. small_goes logs told pages r _ (notes_of r touched ++ installs_of r due) then_ refl
     (all_append IsSmall (notes_of r touched) (installs_of r due) (notes_are_small r touched) (installs_are_small r due)) (lead_same pages r then_ refl refl))
 
--- the writes of pages are small
-pages_small : (ps : List ℕ) → AllByRecursion IsSmall (page_batch ps)
-pages_small [] = tt
-pages_small (p ∷ ps) = (tt, pages_small ps)
-
-small_batch : (b : Batch) → AllByRecursion IsSmall b → IsBatch b
-small_batch [] h = tt
-small_batch (w ∷ []) h = tt
-small_batch (w ∷ x ∷ ws) h = h
-
-batch_core : (k : Kept) (b : Batch) → AllByRecursion IsSmall b → SameCore k (batch_written k b)
-batch_core k [] h = record { log = refl; master = refl }
-batch_core k (w ∷ ws) h = core_trans k (written k w) _ (small_core k w h.0) (batch_core (written k w) ws h.1)
-
-flush_batches : (ps : List (List ℕ)) (last : Batch) → IsBatch last → AllByRecursion IsBatch (map page_batch ps ++ last ∷ [])
-flush_batches [] last h = (h, tt)
-flush_batches (p ∷ ps) last h = (small_batch (page_batch p) (pages_small p), flush_batches ps last h)
-
-flush_some : (k k2 : Kept) (m : Master) (ps : List (List ℕ)) (j : ℕ) → SameCore k k2 → EndsIn 0 k.log.ends (length k.log.records) → (all_written k2 (take j (map page_batch ps ++ (Master_write m (length k.log.records) ∷ []) ∷ []))).log ≡ k.log
-flush_some k k2 m [] zero c p = sym c.log
-flush_some k k2 m [] (suc zero) c p = mastered k k2 m _ c refl p
-flush_some k k2 m [] (suc (suc j)) c p = mastered k k2 m _ c refl p
-flush_some k k2 m (b ∷ ps) zero c p = sym c.log
-flush_some k k2 m (b ∷ ps) (suc j) c p = flush_some k (batch_written k2 (page_batch b)) m ps j (core_trans k k2 _ c (batch_core k2 (page_batch b) (pages_small b))) p
-
-flush_all : (k k2 : Kept) (m : Master) (ps : List (List ℕ)) → SameCore k k2 → EndsIn 0 k.log.ends (length k.log.records) → (all_written k2 (map page_batch ps ++ (Master_write m (length k.log.records) ∷ []) ∷ [])).log ≡ k.log
-flush_all k k2 m [] c p = mastered k k2 m _ c refl p
-flush_all k k2 m (b ∷ ps) c p = flush_all k (batch_written k2 (page_batch b)) m ps (core_trans k k2 _ c (batch_core k2 (page_batch b) (pages_small b))) p
-
 pub flush_goes : (s : Setting) (logs : Logs) (told : Told) (pages n : ℕ) (h : Here) (r : Replica) → At s logs n r → PartGoes logs told pages r (flush_part h r)
 unfolding flush_part
 flush_goes s logs told pages n h r at =
@@ -98,14 +68,16 @@ flush_goes s logs told pages n h r at =
     let m : Master = flushed_master r in
     let then_ : Replica = record r { pages = each_page (cleaned ps) 16 r.pages } in
     let c : SameCore r.kept r.kept = record { log = refl; master = refl } in
-    let whole : (all_written r.kept (flush_writes r ps)).log ≡ r.kept.log = flush_all r.kept r.kept m (by_eights ps) c at.kept.ends in
+    let new : (x : Kept) → SameCore r.kept x → (written x (Master_write m (end r))).log ≡ r.kept.log = λ x d. mastered r.kept x m (end r) d refl at.kept.ends in
+    let whole : (all_written r.kept (flush_writes r ps)).log ≡ r.kept.log =
+    flush_all (λ x. x.log ≡ r.kept.log) r.kept r.kept m (end r) (by_eights ps) c new in
     checked_goes logs told pages r (checks_of_flush h r) _
     (λ _. record {
       log = Stands whole;
       lead = lead_core pages r then_ (all_written r.kept (flush_writes r ps)) whole (lead_same pages r then_ refl refl);
       out = tt;
       batches = flush_batches (by_eights ps) (Master_write m (end r) ∷ []) tt;
-      writes = λ j. Stands (flush_some r.kept r.kept m (by_eights ps) j c at.kept.ends);
+      writes = λ j. Stands (flush_some (λ x. x.log ≡ r.kept.log) r.kept r.kept m (end r) (by_eights ps) j c (λ x d. sym d.log) new);
     })
 
 pub finish_goes : (s : Setting) (logs : Logs) (told : Told) (pages n : ℕ) (h : Here) (r : Replica) (full : Bool) → At s logs n r → PartGoes logs told pages r (finish_part h r full)

@@ -1,13 +1,11 @@
 -- The terms of a log rise.
-use Rattle.std.proofs.Common.{◌≡◌, ℕ, ◌+◌, ◌<◌, List, [], ◌∷◌, ◌++◌, length, map, Bool, true, false, refl, sym, ap, ◌∙◌, subst, arith, append_assoc, length-append}
+use Rattle.std.proofs.Common.{◌≡◌, ℕ, ◌+◌, ◌<◌, List, [], ◌∷◌, ◌++◌, length, map, false, refl, sym, ap, ◌∙◌, subst, arith, append_assoc, length-append}
 use Rattle.std.specs.Prelude.{nat_lt}
 use Rattle.std.specs.List.{flat_map, enumerate_from}
 use Rattle.std.proofs.lemmas.Bool.{ltb-true, false≢true}
 use Rattle.ag_model.specs.declared.record.Record.{Record}
 use Rattle.ag_model.specs.declared.record.Record.TheVariants.{Put, Del, Commit, Abort, Trim, Term}
 use Rattle.ag_model.specs.declared.config.TermStart.{TermStart}
-use Rattle.ag_model.specs.declared.value.Change.{Change}
-use Rattle.ag_model.specs.declared.value.Change.TheVariants.{Put as PutChange, Del as DelChange}
 use Rattle.ag_model.specs.declared.event.Pair.{Pair}
 use Rattle.ag_model.specs.Starts.{last_term, start_by}
 use Rattle.ag_model.specs.Proper.{RisesFrom, terms}
@@ -16,14 +14,16 @@ use Rattle.ag_rules.specs.PutEvent.{record_of}
 use Rattle.ag_rules.specs.CommitEvent.{end_record}
 use Rattle.ag_rules.specs.SetEvent.{records_of_set, pages_of_pairs}
 use Rattle.ag_rules.specs.Promotion.{promotion_records, abort_of}
+use Rattle.ag_lists.proofs.Tests.{if_has}
+use Rattle.ag_lists.proofs.Each.{all_append, all_middle}
 use Rattle.ag_laws.specs.At.{NoTerm, is_term}
-use Rattle.ag_laws.proofs.Plans.{if_has}
-use Rattle.ag_laws.proofs.Lists.{all_append}
 use Rattle.ag_laws.proofs.Grow.{last_quiet, last_begun}
+use Rattle.ag_laws.proofs.Plain.{change_quiet, end_quiet, puts_quiet}
+use Rattle.ag_laws.proofs.Promoted.{aborts_quiet}
 use Rattle.ag_law_proper.specs.Growth.{Lead, Steps, Same, Hardens, Opens, Changes, Closes, Ends, Sets, Trims}
 use Rattle.ag_law_proper.specs.Law.{Law}
 use Rattle.ag_law_proper.specs.Places.{EachPlace}
-use Rattle.ag_law_proper.proofs.Splits.{all_at, each_none, each_shorter, each_append, each_one}
+use Rattle.ag_law_proper.proofs.Splits.{each_none, each_shorter, each_append, each_one}
 
 -- a record that starts a term starts a later one than those before
 abbrev pub TermPlace : List Record → Record → List Record → Type 0
@@ -33,34 +33,18 @@ TermPlace front r back = (t : ℕ) → r ≡ Term t → last_term front < t
 goes_termless : (log new : List Record) → NoTerm new → EachPlace TermPlace log → EachPlace TermPlace (log ++ new)
 goes_termless log new none all =
     each_append TermPlace log new (λ front r back e q. q)
-    (λ first r back e t is. absurd (false≢true (sym (all_at (λ x. is_term x ≡ false) first r back (subst (λ (l : List Record). NoTerm l) e none)) ∙ ap is_term is))) all
-
-pub change_termless : (txn key : ℕ) (c : Change) → NoTerm (record_of txn key c ∷ [])
-change_termless txn key (PutChange v) = (refl, tt)
-change_termless txn key DelChange = (refl, tt)
-
-pub end_termless : (commits : Bool) (txn : ℕ) (ps : List ℕ) → NoTerm (end_record commits txn ps ∷ [])
-end_termless true txn ps = (refl, tt)
-end_termless false txn ps = (refl, tt)
-
-puts_termless : (txn : ℕ) (pairs : List Pair) → NoTerm (map (λ (pair : Pair). Put txn pair.key pair.value) pairs)
-puts_termless txn [] = tt
-puts_termless txn (p ∷ ps) = (refl, puts_termless txn ps)
+    (λ first r back e t is. absurd (false≢true (sym (all_middle (λ x. is_term x ≡ false) first r back (subst (λ (l : List Record). NoTerm l) e none)) ∙ ap is_term is))) all
 
 pub set_termless : (pages txn : ℕ) (pairs : List Pair) → NoTerm (records_of_set pages txn pairs)
-set_termless pages txn pairs = all_append _ (map (λ (pair : Pair). Put txn pair.key pair.value) pairs) (Commit txn (pages_of_pairs pages pairs) ∷ []) (puts_termless txn pairs) (refl, tt)
-
-pub aborts_termless : (pages : ℕ) (log : List Record) (ts : List ℕ) → NoTerm (map (abort_of pages log) ts)
-aborts_termless pages log [] = tt
-aborts_termless pages log (t ∷ ts) = (refl, aborts_termless pages log ts)
+set_termless pages txn pairs = all_append _ (map (λ (pair : Pair). Put txn pair.key pair.value) pairs) (Commit txn (pages_of_pairs pages pairs) ∷ []) (puts_quiet txn pairs) (refl, tt)
 
 step_rises : (pages : ℕ) (a b : Lead) → Steps pages a b → EachPlace TermPlace a.log → EachPlace TermPlace b.log
 step_rises pages a b (Same e) p = subst (λ (x : Lead). EachPlace TermPlace x.log) (sym e) p
 step_rises pages a b (Hardens e) p = subst (λ (x : Lead). EachPlace TermPlace x.log) (sym e) p
 step_rises pages a b (Opens snapshot e) p = subst (λ (x : Lead). EachPlace TermPlace x.log) (sym e) p
-step_rises pages a b (Changes txn key c is_open room fits e) p = subst (λ (x : Lead). EachPlace TermPlace x.log) (sym e) (goes_termless a.log (record_of txn key c ∷ []) (change_termless txn key c) p)
+step_rises pages a b (Changes txn key c is_open room fits e) p = subst (λ (x : Lead). EachPlace TermPlace x.log) (sym e) (goes_termless a.log (record_of txn key c ∷ []) (change_quiet txn key c) p)
 step_rises pages a b (Closes txn none e) p = subst (λ (x : Lead). EachPlace TermPlace x.log) (sym e) p
-step_rises pages a b (Ends commits txn ps is_open is fits e) p = subst (λ (x : Lead). EachPlace TermPlace x.log) (sym e) (goes_termless a.log (end_record commits txn ps ∷ []) (end_termless commits txn ps) p)
+step_rises pages a b (Ends commits txn ps is_open is fits e) p = subst (λ (x : Lead). EachPlace TermPlace x.log) (sym e) (goes_termless a.log (end_record commits txn ps ∷ []) (end_quiet commits txn ps) p)
 step_rises pages a b (Sets pairs room fits e) p = subst (λ (x : Lead). EachPlace TermPlace x.log) (sym e) (goes_termless a.log (records_of_set pages (a.last_txn + 1) pairs) (set_termless pages (a.last_txn + 1) pairs) p)
 step_rises pages a b (Trims page horizon low fits e) p = subst (λ (x : Lead). EachPlace TermPlace x.log) (sym e) (goes_termless a.log (Trim page horizon ∷ []) (refl, tt) p)
 
@@ -70,9 +54,9 @@ taken_rises pages term log p =
     let aborts : List Record = map (abort_of pages log) (open_in log) in
     if_has (λ (l : List Record). EachPlace TermPlace (log ++ (l ++ aborts))) (nat_lt (last_term log) term) (Term term ∷ []) []
     (λ y. subst (EachPlace TermPlace) (append_assoc log (Term term ∷ []) aborts)
-    (goes_termless (log ++ Term term ∷ []) aborts (aborts_termless pages log (open_in log))
+    (goes_termless (log ++ Term term ∷ []) aborts (aborts_quiet pages log (open_in log))
     (each_one TermPlace log (Term term) (λ front r back e q. q) (λ t e. let same : term ≡ t = cc in omega (arith, ltb-true (last_term log) term y, same)) p)))
-    (λ _. goes_termless log aborts (aborts_termless pages log (open_in log)) p)
+    (λ _. goes_termless log aborts (aborts_quiet pages log (open_in log)) p)
 
 pub rise_law : (pages : ℕ) → Law pages (EachPlace TermPlace) (λ x. EachPlace TermPlace x.log)
 rise_law pages = record {

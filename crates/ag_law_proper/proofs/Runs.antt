@@ -4,6 +4,7 @@ use Rattle.std.specs.Prelude.{Option, Some, None, ◌==◌, nat_lt}
 use Rattle.std.specs.List.{AllByRecursion, filter, fold}
 use Rattle.std.proofs.lemmas.Bool.{false≢true, eqb-true, eqb-false}
 use Rattle.std.proofs.lemmas.List.{take-append-drop}
+use Rattle.std.proofs.lemmas.List.Concat.{flat_map-append}
 use Rattle.ag_model.specs.declared.config.Config.{Config}
 use Rattle.ag_model.specs.declared.config.Mode.{Mode}
 use Rattle.ag_model.specs.declared.record.Record.{Record}
@@ -18,19 +19,18 @@ use Rattle.ag_rules.specs.Next.{done}
 use Rattle.ag_rules.specs.Run.{Moment, moments_from, run}
 use Rattle.ag_rules.specs.Script.{IsEvent, IsScript}
 use Rattle.ag_rules.specs.TermLog.{groups, primary_of, longer, log_of_primary, term_log}
+use Rattle.ag_lists.proofs.Tests.{by_bool, if_has}
+use Rattle.ag_lists.proofs.Each.{all_map}
 use Rattle.ag_laws.specs.Prefix.{IsPrefixOf}
 use Rattle.ag_laws.specs.Logs.{Setting, Logs}
 use Rattle.ag_laws.specs.At.{At}
 use Rattle.ag_laws.specs.Good.{Good}
 use Rattle.ag_laws.specs.First.{first_setting, first_logs}
 use Rattle.ag_laws.specs.Keeps.{Keeps}
-use Rattle.ag_laws.proofs.Plans.{by_bool, if_has}
-use Rattle.ag_laws.proofs.Lists.{all_map}
 use Rattle.ag_laws.proofs.Parts.{part_after}
 use Rattle.ag_laws.proofs.Blocks.{flat, blocks_whole}
 use Rattle.ag_laws.proofs.Events.{next_keeps}
 use Rattle.ag_laws.proofs.Opening.{opening_good}
-use Rattle.std.proofs.lemmas.List.Concat.{flat_map-append}
 use Rattle.ag_law_proper.specs.Growth.{Lead, lead_of, first_lead, promoted_lead, Told, LogGoes, Stands, Cuts, Hardens, Promotes, Comes, LeadGoes, Follows, Leads, Takes}
 use Rattle.ag_law_proper.specs.Law.{Law}
 use Rattle.ag_law_proper.specs.LogsHave.{HardenedHave, BufferedHave, LogsHave}

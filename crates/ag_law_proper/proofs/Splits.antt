@@ -67,11 +67,6 @@ each_one Q log x old next all = each_append Q log (x ∷ []) old here all
         let none : (let nil : List Record = [] in nil ≡ first ++ r ∷ back) = cc in
         absurd (nil_cons first r back none)
 
--- what holds of all holds of each
-pub all_at : {X : Type 0} (P : X → Type 0) (a : List X) (x : X) (b : List X) → AllByRecursion P (a ++ x ∷ b) → P x
-all_at P [] x b p = p.0
-all_at P (y ∷ a) x b p = all_at P a x b p.1
-
 -- the same by the numbers of the records
 pub each_numbered : (P : ℕ → Record → Type 0) (log : List Record) → EachPlace (λ front r back. P (length front + 1) r) log → AllByRecursion (λ r. P r.0 r.1) (numbered log)
 each_numbered P log all = from [] log refl

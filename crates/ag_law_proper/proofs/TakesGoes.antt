@@ -16,10 +16,10 @@ use Rattle.ag_rules.specs.Promotion.{promotion_records, promotion_touches, promo
 use Rattle.ag_rules.specs.Failover.{takes_over, target}
 use Rattle.ag_rules.specs.StartEvent.{start_part, start_records, checks_of_start, starts_reverting, starts_second, starts_first, start_writes, started_master, woken, is_named}
 use Rattle.ag_rules.specs.Redo.{due_pages}
+use Rattle.ag_lists.proofs.Tests.{by_bool, if_has}
+use Rattle.ag_lists.proofs.Each.{all_append}
 use Rattle.ag_laws.specs.Logs.{Setting, Logs}
 use Rattle.ag_laws.specs.At.{At}
-use Rattle.ag_laws.proofs.Plans.{by_bool, if_has}
-use Rattle.ag_laws.proofs.Lists.{all_append}
 use Rattle.ag_laws.proofs.Blocks.{flat, blocks_whole, small_then, small_then_all}
 use Rattle.ag_laws.proofs.Disks.{SameCore, small_some, small_all, each_batches, notes_are_small, installs_are_small}
 use Rattle.ag_laws.proofs.Steps.{IsSmall}

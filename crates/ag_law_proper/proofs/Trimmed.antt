@@ -13,13 +13,13 @@ use Rattle.ag_rules.specs.PutEvent.{record_of}
 use Rattle.ag_rules.specs.CommitEvent.{end_record}
 use Rattle.ag_rules.specs.SetEvent.{records_of_set, pages_of_pairs}
 use Rattle.ag_rules.specs.Promotion.{promotion_records, abort_of}
-use Rattle.ag_laws.proofs.Plans.{if_has}
-use Rattle.ag_laws.proofs.Lists.{all_append}
+use Rattle.ag_lists.proofs.Tests.{if_has}
+use Rattle.ag_lists.proofs.Each.{all_append, all_middle}
 use Rattle.ag_law_proper.specs.Growth.{Lead, Steps, Same, Hardens, Opens, Changes, Closes, Ends, Sets, Trims}
 use Rattle.ag_law_proper.specs.Law.{Law}
 use Rattle.ag_law_proper.specs.Places.{EachPlace}
 use Rattle.ag_law_proper.specs.Trims.{IsTrimBelow}
-use Rattle.ag_law_proper.proofs.Splits.{all_at, each_none, each_shorter, each_append, each_one}
+use Rattle.ag_law_proper.proofs.Splits.{each_none, each_shorter, each_append, each_one}
 
 -- a record in its place
 abbrev pub TrimPlace : List Record → Record → List Record → Type 0
@@ -42,7 +42,7 @@ no_trim lsn (Term t) e = tt
 pub goes_untrimmed : (log new : List Record) → AllByRecursion (λ r. is_no_trim r ≡ true) new → EachPlace TrimPlace log → EachPlace TrimPlace (log ++ new)
 goes_untrimmed log new none all =
     each_append TrimPlace log new (λ front r back e q. q)
-    (λ first r back e. no_trim (length (log ++ first) + 1) r (all_at (λ x. is_no_trim x ≡ true) first r back (subst (AllByRecursion (λ x. is_no_trim x ≡ true)) e none))) all
+    (λ first r back e. no_trim (length (log ++ first) + 1) r (all_middle (λ x. is_no_trim x ≡ true) first r back (subst (AllByRecursion (λ x. is_no_trim x ≡ true)) e none))) all
 
 change_none : (txn key : ℕ) (c : Change) → is_no_trim (record_of txn key c) ≡ true
 change_none txn key (PutChange v) = refl

@@ -95,7 +95,8 @@ pub data Steps (pages : ℕ) (a b : Lead) : Type 0 where
   Closes : (txn : ℕ) → pages_of pages txn a.log ≡ [] → b ≡ closed txn a → Steps pages a b
   Ends : (commits : Bool) (txn : ℕ) (listed : List ℕ) → is_open_in txn a.open_txns ≡ true → listed ≡ pages_of pages txn a.log → BufferFits (end_record commits txn listed ∷ []) a
       → b ≡ longer_by (end_record commits txn listed ∷ []) (closed txn a) → Steps pages a b
-  Sets : (pairs : List Pair) → PairsFit pages a.log [] pairs → BufferFits (records_of_set pages (a.last_txn + 1) pairs) a → b ≡ with_whole (records_of_set pages (a.last_txn + 1) pairs) a → Steps pages a b
+  Sets : (pairs : List Pair) → PairsFit pages a.log [] pairs → BufferFits (records_of_set pages (a.last_txn + 1) pairs) a
+      → b ≡ with_whole (records_of_set pages (a.last_txn + 1) pairs) a → Steps pages a b
   Trims : (page horizon : ℕ) → horizon ≤ length a.log → BufferFits (Trim page horizon ∷ []) a → b ≡ longer_by (Trim page horizon ∷ []) a → Steps pages a b
 
 -- what one event makes of a replica, where it leads afterwards
@@ -119,11 +120,14 @@ Told = Message → Type 0
 -- what one event makes of the log on a replica's disk, done whole or cut short
 pub data LogGoes (logs : Logs) (told : Told) (pages : ℕ) (r : Replica) (new : Log) : Type 0 where
   Stands : new ≡ r.kept.log → LogGoes logs told pages r new
-  Cuts : (term fork its_end : ℕ) (ticket : Ticket) → told (record { term = term; body = Resume ticket fork its_end }) → IsAnswered logs term fork r → new ≡ cut_at fork r.kept.log → LogGoes logs told pages r new
+  Cuts : (term fork its_end : ℕ) (ticket : Ticket) → told (record { term = term; body = Resume ticket fork its_end })
+      → IsAnswered logs term fork r → new ≡ cut_at fork r.kept.log → LogGoes logs told pages r new
   Hardens : r.leads ≡ true → 0 < length r.leading.buffer → LogFits r.kept.log (r.leading.buffer ∷ []) → new ≡ with_block r.kept.log r.leading.buffer → LogGoes logs told pages r new
-  Promotes : (term : ℕ) (some rest : List (List Record)) → last_term (records r) ≤ term → (logs term ≡ []) ⊎ (logs term ≡ records r) → LogFits r.kept.log (some ++ rest) → some ++ rest ≡ blocks_of (promotion_records pages term (records r))
+  Promotes : (term : ℕ) (some rest : List (List Record)) → last_term (records r) ≤ term → (logs term ≡ []) ⊎ (logs term ≡ records r) → LogFits r.kept.log (some ++ rest)
+      → some ++ rest ≡ blocks_of (promotion_records pages term (records r))
       → new ≡ with_blocks r.kept.log some → LogGoes logs told pages r new
-  Comes : (term : ℕ) (b : Block) → told (record { term = term; body = OfBlock b }) → r.leads ≡ false → term ≡ r.term → IsPart (logs term) b → b.first ≡ end r + 1 → LogFits r.kept.log (b.records ∷ []) → new ≡ with_block r.kept.log b.records → LogGoes logs told pages r new
+  Comes : (term : ℕ) (b : Block) → told (record { term = term; body = OfBlock b }) → r.leads ≡ false → term ≡ r.term → IsPart (logs term) b → b.first ≡ end r + 1
+      → LogFits r.kept.log (b.records ∷ []) → new ≡ with_block r.kept.log b.records → LogGoes logs told pages r new
 
 -- whether a message tells nothing of logs
 abbrev pub is_plain : Body → Bool

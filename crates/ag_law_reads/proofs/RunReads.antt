@@ -21,13 +21,14 @@ use Rattle.ag_rules.specs.Script.{IsEvent, IsScript}
 use Rattle.ag_rules.specs.Seen.{SeenRow, row_by, row_seen_at, rows_seen}
 use Rattle.ag_rules.specs.TermLog.{term_log}
 use Rattle.ag_rules.specs.ReadsRight.{ReadsRight, IsRowOf}
+use Rattle.ag_lists.proofs.Filters.{all_filter}
+use Rattle.ag_lists.proofs.Each.{all_map}
 use Rattle.ag_laws.specs.Prefix.{IsPrefixOf}
 use Rattle.ag_laws.specs.Logs.{Setting, Logs}
 use Rattle.ag_laws.specs.At.{At}
 use Rattle.ag_laws.specs.Good.{Good}
 use Rattle.ag_laws.proofs.Prefix.{prefix_length, rows_prefix}
 use Rattle.ag_laws.proofs.Plans.{unless_has}
-use Rattle.ag_laws.proofs.Lists.{all_map, all_filter}
 use Rattle.ag_laws.proofs.SessionKeeps.{access_answer, front_le}
 use Rattle.ag_laws.proofs.Cuts.{cut_has}
 use Rattle.ag_laws.proofs.Runs.{in_run}

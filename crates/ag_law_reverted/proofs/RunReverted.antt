@@ -20,13 +20,13 @@ use Rattle.ag_rules.specs.Run.{Moment, moment, run}
 use Rattle.ag_rules.specs.Script.{IsEvent, IsScript}
 use Rattle.ag_rules.specs.TermLog.{term_log}
 use Rattle.ag_rules.specs.RevertedLaw.{Return, return_by, return_at, returns, IsRestored, RevertedLaw}
+use Rattle.ag_lists.proofs.Each.{all_map}
 use Rattle.ag_laws.specs.Prefix.{IsPrefixOf}
 use Rattle.ag_laws.specs.Logs.{Setting, Logs}
 use Rattle.ag_laws.specs.At.{At}
 use Rattle.ag_laws.specs.Good.{Good}
 use Rattle.ag_laws.proofs.Prefix.{prefix_trans, take_prefix}
 use Rattle.ag_laws.proofs.Plans.{unless_has}
-use Rattle.ag_laws.proofs.Lists.{all_map}
 use Rattle.ag_laws.proofs.Groups.{value_prefix, replicas_posted}
 use Rattle.ag_laws.proofs.Blocks.{small_then_all}
 use Rattle.ag_laws.proofs.Disks.{notes_are_small}

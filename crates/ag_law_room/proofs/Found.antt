@@ -6,6 +6,7 @@ use Rattle.std.specs.List.{AllByRecursion, filter, sum_by}
 use Rattle.std.proofs.lemmas.Bool.{eqb-true, eqb-false}
 use Rattle.std.proofs.lemmas.List.{append-nil}
 use Rattle.std.proofs.lemmas.List.Sums.{sum_by-append}
+use Rattle.std.proofs.lemmas.List.Elements.{filter-append}
 use Rattle.ag_model.specs.declared.record.Record.{Record}
 use Rattle.ag_model.specs.declared.record.Record.TheVariants.{Put, Del, Commit, Abort, Trim, Term}
 use Rattle.ag_model.specs.declared.value.Change.{Change}
@@ -19,13 +20,14 @@ use Rattle.ag_rules.specs.PutEvent.{record_of}
 use Rattle.ag_rules.specs.CommitEvent.{end_record}
 use Rattle.ag_rules.specs.SetEvent.{pages_of_pairs, taken_on, pair_size}
 use Rattle.ag_rules.specs.Promotion.{promotion_records, abort_of}
-use Rattle.ag_laws.proofs.Plans.{by_bool, if_has}
-use Rattle.ag_laws.proofs.Lists.{all_append}
+use Rattle.ag_lists.proofs.Tests.{by_bool, if_has}
+use Rattle.ag_lists.proofs.Each.{all_append, all_middle}
 use Rattle.ag_law_proper.specs.Growth.{Lead, Steps, Same, Hardens, Opens, Changes, Closes, Ends, Sets, Trims, PairsFit, free_on}
 use Rattle.ag_law_proper.specs.Law.{Law}
 use Rattle.ag_law_proper.specs.Places.{EachPlace}
-use Rattle.ag_law_proper.proofs.Splits.{all_at, each_none, each_shorter, each_append, each_one}
+use Rattle.ag_law_proper.proofs.Splits.{each_none, each_shorter, each_append, each_one}
 use Rattle.ag_law_proper.proofs.Both.{ProperLog, ProperLead, proper_law, proper_records}
+use Rattle.ag_law_proper.proofs.Ended.{puts}
 use Rattle.ag_law_room.specs.Room.{HasRoom, PutPlace}
 use Rattle.ag_law_room.proofs.Sizes.{size_of, adds, free_is, value_size, size_step}
 
@@ -55,7 +57,7 @@ any_after pages front (Term t) back more p = tt
 goes_unput : (pages : ℕ) (log new : List Record) → AllByRecursion (λ r. is_no_put r ≡ true) new → EachPlace (PutPlace pages) log → EachPlace (PutPlace pages) (log ++ new)
 goes_unput pages log new none all =
     each_append (PutPlace pages) log new (λ front r back e p. any_after pages front r back (back ++ new) p)
-    (λ first r back e. no_put pages (log ++ first) r back (all_at (λ x. is_no_put x ≡ true) first r back (subst (AllByRecursion (λ x. is_no_put x ≡ true)) e none))) all
+    (λ first r back e. no_put pages (log ++ first) r back (all_middle (λ x. is_no_put x ≡ true) first r back (subst (AllByRecursion (λ x. is_no_put x ≡ true)) e none))) all
 
 one_put : (pages : ℕ) (log : List Record) (r : Record) → PutPlace pages log r [] → EachPlace (PutPlace pages) log → EachPlace (PutPlace pages) (log ++ r ∷ [])
 one_put pages log r here all = each_one (PutPlace pages) log r (λ front x back e p. any_after pages front x back (back ++ r ∷ []) p) here all
@@ -72,14 +74,6 @@ aborts_unput : (pages : ℕ) (log : List Record) (ts : List ℕ) → AllByRecurs
 aborts_unput pages log [] = tt
 aborts_unput pages log (t ∷ ts) = (refl, aborts_unput pages log ts)
 
--- the puts of one transaction
-abbrev puts : ℕ → List Pair → List Record
-puts txn pairs = map (λ (pair : Pair). Put txn pair.key pair.value) pairs
-
-filter_push : (f : Pair → Bool) (xs : List Pair) (x : Pair) → filter f (xs ++ x ∷ []) ≡ filter f xs ++ (if f x then x ∷ [] else [])
-filter_push f [] x = refl
-filter_push f (y ∷ xs) x = if_has (λ (l : List Pair). l ≡ (if f y then y ∷ filter f xs else filter f xs) ++ (if f x then x ∷ [] else [])) (f y) (y ∷ filter f (xs ++ x ∷ [])) (filter f (xs ++ x ∷ [])) (λ e. ap (λ l. y ∷ l) (filter_push f xs x) ∙ ap (λ b. (if b then y ∷ filter f xs else filter f xs) ++ (if f x then x ∷ [] else [])) (sym e)) (λ e. filter_push f xs x ∙ ap (λ b. (if b then y ∷ filter f xs else filter f xs) ++ (if f x then x ∷ [] else [])) (sym e))
-
 eqb_turn : (x y : ℕ) → (x == y) ≡ true → (y == x) ≡ true
 eqb_turn x y e = by_bool (y == x) (λ v. (y == x) ≡ v → v ≡ true) (λ _ _. refl) (λ _ f. absurd (eqb-false y x f (sym (eqb-true x y e)))) refl
 
@@ -87,7 +81,7 @@ eqb_turn x y e = by_bool (y == x) (λ v. (y == x) ≡ v → v ≡ true) (λ _ _.
 taken_push : (pages p txn : ℕ) (earlier : List Pair) (pair : Pair) → taken_on pages p earlier + adds pages p (Put txn pair.key pair.value) ≤ taken_on pages p (earlier ++ pair ∷ [])
 taken_push pages p txn earlier pair =
     let f : Pair → Bool = λ (x : Pair). page_of pages x.key == p in
-    let e : taken_on pages p (earlier ++ pair ∷ []) ≡ sum_by pair_size (filter f earlier) + sum_by pair_size (if f pair then pair ∷ [] else []) = ap (sum_by pair_size) (filter_push f earlier pair) ∙ sum_by-append pair_size (filter f earlier) (if f pair then pair ∷ [] else []) in
+    let e : taken_on pages p (earlier ++ pair ∷ []) ≡ sum_by pair_size (filter f earlier) + sum_by pair_size (if f pair then pair ∷ [] else []) = ap (sum_by pair_size) (filter-append f earlier (pair ∷ [])) ∙ sum_by-append pair_size (filter f earlier) (if f pair then pair ∷ [] else []) in
     by_bool (p == page_of pages pair.key) (λ b. (p == page_of pages pair.key) ≡ b → taken_on pages p earlier + (if b then 30 + pair.value.len else 0) ≤ taken_on pages p (earlier ++ pair ∷ []))
     (λ _ y.
     let one : sum_by pair_size (if f pair then pair ∷ [] else []) ≡ 0 + pair_size pair = ap (λ b. sum_by pair_size (if b then pair ∷ [] else [])) (eqb_turn p (page_of pages pair.key) y) in

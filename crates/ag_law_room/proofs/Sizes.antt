@@ -16,6 +16,7 @@ use Rattle.ag_model.specs.Rows.{page_of, touches}
 use Rattle.ag_model.specs.Page.{value, horizons, horizon_by, all_versions, untrimmed, version_of, is_trimmed_at}
 use Rattle.ag_model.specs.Sizes.{change_size, versions_size, free_bytes}
 use Rattle.ag_model.specs.Txns.{txn_of}
+use Rattle.ag_lists.proofs.Tests.{by_bool, if_has}
 use Rattle.ag_version.specs.Edits.{stamped, without_txn, left_by_trim, new_version}
 use Rattle.ag_version.specs.Steps.{AreProper, IsAt, record_of}
 use Rattle.ag_version.proofs.Endings.{IsOpen}
@@ -23,7 +24,6 @@ use Rattle.ag_version.proofs.Versions.{versions_neutral, versions_commit, versio
 use Rattle.ag_version.proofs.Untrimmed.{AreBelow, untrimmed_stamped, untrimmed_without}
 use Rattle.ag_version.proofs.Redone.{value_at_end, value-is, horizons_push, have-open, end_change, end_trim}
 use Rattle.ag_version.proofs.Prefixes.{open-before, horizons-below}
-use Rattle.ag_laws.proofs.Plans.{by_bool, if_has}
 use Rattle.ag_law_proper.specs.Growth.{free_on}
 
 -- the bytes of the versions of a page after all records of a log

@@ -14,6 +14,8 @@ use Rattle.ag_rules.specs.Next.{done}
 use Rattle.ag_rules.specs.Run.{Moment, moment, moments_from, run}
 use Rattle.ag_rules.specs.Script.{IsEvent, IsScript}
 use Rattle.ag_rules.specs.TermLog.{groups, primary_of, longer, longest, log_of_primary, term_log}
+use Rattle.ag_lists.proofs.Tests.{by_bool, if_has}
+use Rattle.ag_lists.proofs.Each.{all_map, all_append}
 use Rattle.ag_laws.specs.Prefix.{IsPrefixOf}
 use Rattle.ag_laws.specs.Logs.{Setting, Logs}
 use Rattle.ag_laws.specs.Disk.{IsOwn}
@@ -22,13 +24,11 @@ use Rattle.ag_laws.specs.Good.{Good}
 use Rattle.ag_laws.specs.First.{first_setting, first_logs}
 use Rattle.ag_laws.specs.Keeps.{Keeps}
 use Rattle.ag_laws.proofs.Prefix.{prefix_refl, prefix_trans, longer_prefix}
-use Rattle.ag_laws.proofs.Plans.{by_bool, if_has}
-use Rattle.ag_laws.proofs.Lists.{all_map, all_append}
 use Rattle.ag_laws.proofs.Events.{next_keeps}
 use Rattle.ag_laws.proofs.Opening.{opening_good}
 
 -- the longest log of a replica in a term, from what is known on
-abbrev longest_from : ℕ → ℕ → List Record → List Group → List Record
+abbrev pub longest_from : ℕ → ℕ → List Record → List Group → List Record
 longest_from t n log gs = fold (λ l g. longer l (records (replica g n))) log (filter (λ g. (replica g n).term == t) gs)
 
 -- what one more group adds to the longest log, where its logs are these

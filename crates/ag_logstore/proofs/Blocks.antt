@@ -6,9 +6,10 @@ use Rattle.std.proofs.lemmas.List.{take-append-le, drop-append-le, length-drop, 
 use Rattle.std.proofs.Math.Seq.{take-length}
 use Rattle.ag_model.specs.declared.record.Record.{Record}
 use Rattle.ag_model.specs.Blocks.{end_of_block, after_to}
+use Rattle.ag_lists.proofs.Tests.{chosen}
 use Rattle.ag_logstore.specs.LogKept.{RisesTo}
 use Rattle.ag_logstore.specs.Blocks.{AreBlocks}
-use Rattle.ag_logstore.proofs.LogEnds.{rises_le, chosen}
+use Rattle.ag_logstore.proofs.LogEnds.{rises_le}
 
 -- one more block
 pub blocks_push : (P : List Record → Type 0) (low high : ℕ) (es : List ℕ) (rs new : List Record) → RisesTo low high es → high ≡ low + length rs → AreBlocks P low es rs → P new
@@ -52,7 +53,3 @@ block_found P (Some last) high first ends rs p a h =
     let from : (first - 1) - 0 ≡ first - 1 = omega arith in
     let to : last - 0 ≡ last = omega arith in
     subst (λ (n : ℕ). P (after_to n last rs)) from (subst (λ (n : ℕ). P (after_to ((first - 1) - 0) n rs)) to (block_after P 0 high first ends rs last p a (sym h)).2)
-
--- a block that is found has P
-pub block_has : (P : List Record → Type 0) (ends : List ℕ) (rs : List Record) (first last : ℕ) → RisesTo 0 (length rs) ends → AreBlocks P 0 ends rs → end_of_block 0 first ends ≡ Some last → P (after_to (first - 1) last rs)
-block_has P ends rs first last p a h = block_found P (Some last) (length rs) first ends rs p a (sym h)

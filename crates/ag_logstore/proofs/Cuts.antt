@@ -2,18 +2,19 @@
 use Rattle.std.proofs.Common.{◌≡◌, ℕ, zero, suc, ◌+◌, ◌-◌, ◌<◌, ◌≤◌, List, [], ◌∷◌, length, get_or, take, drop, Bool, true, false, cond, refl, sym, ap, ◌∙◌, subst, inl, inr, ◌⊎◌, arith, add_assoc, zero-add}
 use Rattle.std.specs.Prelude.{nat_le, Contains}
 use Rattle.std.specs.List.{filter}
-use Rattle.std.specs.List.Sorted.{IsPartitionPoint, IsNonDecreasingBy}
+use Rattle.std.specs.List.Sorted.{IsPartitionPoint}
 use Rattle.std.proofs.lemmas.Bool.{leb-true, le-leb, false≢true}
 use Rattle.std.proofs.lemmas.List.{drop-take, drop-drop, take-take, length-drop, length-take-le}
 use Rattle.ag_model.specs.declared.config.TermStart.{TermStart}
 use Rattle.ag_model.specs.declared.record.Record.{Record}
-use Rattle.ag_model.specs.declared.record.Record.TheVariants.{Put, Del, Commit, Abort, Trim, Term}
 use Rattle.ag_model.specs.Sizes.{sectors_to, records_size}
 use Rattle.ag_model.specs.declared.record.Log.{Log}
 use Rattle.ag_model.specs.Blocks.{cut_at}
-use Rattle.ag_logstore.specs.LogKept.{RisesTo, AreSmall, starts_after, IsKept}
+use Rattle.ag_lists.proofs.Tests.{by_bool}
+use Rattle.ag_ends.proofs.CutStarts.{starts_up, starts_of_cut}
+use Rattle.ag_logstore.specs.LogKept.{RisesTo, AreSmall, IsKept}
 use Rattle.ag_logstore.proofs.Fitting.{fit_take}
-use Rattle.ag_logstore.proofs.LogEnds.{by_bool, rises_le}
+use Rattle.ag_logstore.proofs.LogEnds.{rises_le}
 
 -- what stands before a partition point is what passes the test
 pub take_is_filter : {X : Type 0} (p : X → Bool) (xs : List X) (i : ℕ) → i ≤ length xs → IsPartitionPoint (λ y. p y ≡ true) (λ y. p y ≡ false) xs i → take i xs ≡ filter p xs
@@ -101,65 +102,6 @@ splits low high end (e ∷ es) rs p a (inr there) = splits_later low high end e 
     rest : (k : ℕ) → k < suc (length es) → get_or (e ∷ es) k end ≡ end → IsCut e end es
     rest zero h is = inl (sym is)
     rest (suc k) h is = inr (k, omega (arith, h), is)
-
--- the starts after an LSN lie above it, in order
-above : (lsn i : ℕ) (rs : List Record) (d : TermStart) → i < length (starts_after lsn rs) → lsn < (get_or (starts_after lsn rs) i d).lsn
-above lsn i [] d h = absurd (omega (arith, h))
-above lsn zero (Term t ∷ rs) d h = omega arith
-above lsn (suc i) (Term t ∷ rs) d h = omega (arith, above (lsn + 1) i rs d (omega (arith, h)))
-above lsn i (Put t k v ∷ rs) d h = omega (arith, above (lsn + 1) i rs d h)
-above lsn i (Del t k ∷ rs) d h = omega (arith, above (lsn + 1) i rs d h)
-above lsn i (Commit t ps ∷ rs) d h = omega (arith, above (lsn + 1) i rs d h)
-above lsn i (Abort t ps ∷ rs) d h = omega (arith, above (lsn + 1) i rs d h)
-above lsn i (Trim p g ∷ rs) d h = omega (arith, above (lsn + 1) i rs d h)
-
-pub starts_rise : (lsn : ℕ) (rs : List Record) → IsNonDecreasingBy (λ (s : TermStart). s.lsn) (starts_after lsn rs)
-starts_rise lsn [] i j d le h = absurd (omega (arith, h))
-starts_rise lsn (Term t ∷ rs) zero zero d le h = omega arith
-starts_rise lsn (Term t ∷ rs) zero (suc j) d le h = omega (arith, above (lsn + 1) j rs d (omega (arith, h)))
-starts_rise lsn (Term t ∷ rs) (suc i) zero d le h = absurd (omega (arith, le))
-starts_rise lsn (Term t ∷ rs) (suc i) (suc j) d le h = starts_rise (lsn + 1) rs i j d (omega (arith, le)) (omega (arith, h))
-starts_rise lsn (Put t k v ∷ rs) i j d le h = starts_rise (lsn + 1) rs i j d le h
-starts_rise lsn (Del t k ∷ rs) i j d le h = starts_rise (lsn + 1) rs i j d le h
-starts_rise lsn (Commit t ps ∷ rs) i j d le h = starts_rise (lsn + 1) rs i j d le h
-starts_rise lsn (Abort t ps ∷ rs) i j d le h = starts_rise (lsn + 1) rs i j d le h
-starts_rise lsn (Trim p g ∷ rs) i j d le h = starts_rise (lsn + 1) rs i j d le h
-
--- the starts up to an LSN
-abbrev pub starts_up : ℕ → List TermStart → List TermStart
-starts_up end ss = filter (λ (s : TermStart). nat_le s.lsn end) ss
-
-no_starts : (lsn end : ℕ) (rs : List Record) → end ≤ lsn → starts_up end (starts_after lsn rs) ≡ []
-no_starts lsn end [] h = refl
-no_starts lsn end (Term t ∷ rs) h =
-    by_bool (nat_le (lsn + 1) end) (λ b. cond b (record { term = t; lsn = lsn + 1 } ∷ starts_up end (starts_after (lsn + 1) rs)) (starts_up end (starts_after (lsn + 1) rs)) ≡ [])
-    (λ e. absurd (omega (arith, h, leb-true (lsn + 1) end e)))
-    (λ _. no_starts (lsn + 1) end rs (omega (arith, h)))
-no_starts lsn end (Put t k v ∷ rs) h = no_starts (lsn + 1) end rs (omega (arith, h))
-no_starts lsn end (Del t k ∷ rs) h = no_starts (lsn + 1) end rs (omega (arith, h))
-no_starts lsn end (Commit t ps ∷ rs) h = no_starts (lsn + 1) end rs (omega (arith, h))
-no_starts lsn end (Abort t ps ∷ rs) h = no_starts (lsn + 1) end rs (omega (arith, h))
-no_starts lsn end (Trim p g ∷ rs) h = no_starts (lsn + 1) end rs (omega (arith, h))
-
-shifted : (lsn n : ℕ) (rs : List Record) → starts_up ((lsn + 1) + n) (starts_after (lsn + 1) rs) ≡ starts_after (lsn + 1) (take n rs) → starts_up (lsn + suc n) (starts_after (lsn + 1) rs) ≡ starts_after (lsn + 1) (take n rs)
-shifted lsn n rs h = ap (λ m. starts_up m (starts_after (lsn + 1) rs)) (omega arith) ∙ h
-
--- they are those of the records up to it
-starts_of_front : (lsn n : ℕ) (rs : List Record) → starts_up (lsn + n) (starts_after lsn rs) ≡ starts_after lsn (take n rs)
-starts_of_front lsn zero rs = no_starts lsn (lsn + 0) rs (omega arith)
-starts_of_front lsn (suc n) [] = refl
-starts_of_front lsn (suc n) (Term t ∷ rs) =
-    let more : starts_up (lsn + suc n) (starts_after (lsn + 1) rs) ≡ starts_after (lsn + 1) (take n rs) = shifted lsn n rs (starts_of_front (lsn + 1) n rs) in
-    ap (λ b. cond b (record { term = t; lsn = lsn + 1 } ∷ starts_up (lsn + suc n) (starts_after (lsn + 1) rs)) (starts_up (lsn + suc n) (starts_after (lsn + 1) rs))) (le-leb (lsn + 1) (lsn + suc n) (omega arith))
-    ∙ ap (λ ss. record { term = t; lsn = lsn + 1 } ∷ ss) more
-starts_of_front lsn (suc n) (Put t k v ∷ rs) = shifted lsn n rs (starts_of_front (lsn + 1) n rs)
-starts_of_front lsn (suc n) (Del t k ∷ rs) = shifted lsn n rs (starts_of_front (lsn + 1) n rs)
-starts_of_front lsn (suc n) (Commit t ps ∷ rs) = shifted lsn n rs (starts_of_front (lsn + 1) n rs)
-starts_of_front lsn (suc n) (Abort t ps ∷ rs) = shifted lsn n rs (starts_of_front (lsn + 1) n rs)
-starts_of_front lsn (suc n) (Trim p g ∷ rs) = shifted lsn n rs (starts_of_front (lsn + 1) n rs)
-
-pub starts_of_cut : (end : ℕ) (rs : List Record) → filter (λ (s : TermStart). nat_le s.lsn end) (starts_after 0 rs) ≡ starts_after 0 (take end rs)
-starts_of_cut end rs = ap (λ m. starts_up m (starts_after 0 rs)) (sym (zero-add end)) ∙ starts_of_front 0 end rs
 
 -- the same of a whole log
 pub record Parts (high end : ℕ) (es : List ℕ) (rs : List Record) : Type 0 where

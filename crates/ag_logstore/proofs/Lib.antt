@@ -1,6 +1,4 @@
 pub mod LogEnds
-pub mod LogStarts
-pub mod LogCopies
 pub mod Blocks
 pub mod Fitting
 pub mod LogMore

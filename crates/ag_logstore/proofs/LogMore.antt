@@ -5,10 +5,11 @@ use Rattle.ag_model.specs.declared.record.Record.{Record}
 use Rattle.ag_model.specs.declared.record.Log.{Log}
 use Rattle.ag_model.specs.Blocks.{with_block}
 use Rattle.ag_model.specs.Sizes.{block_sectors}
+use Rattle.ag_ends.specs.Starts.{starts_after}
+use Rattle.ag_ends.proofs.Starts.{starts_whole}
 use Rattle.ag_record.specs.Spelling.{ArePayload}
-use Rattle.ag_logstore.specs.LogKept.{starts_after, IsKept}
+use Rattle.ag_logstore.specs.LogKept.{IsKept}
 use Rattle.ag_logstore.proofs.LogEnds.{rises_push, sectors_push}
-use Rattle.ag_logstore.proofs.LogStarts.{starts_whole}
 use Rattle.ag_logstore.proofs.Fitting.{fit_append, payload_some, payload_small, small_push}
 
 pub kept_more : (log : Log) (kept : List TermStart) (used : ℕ) (new : List Record) → IsKept log kept used → ArePayload new

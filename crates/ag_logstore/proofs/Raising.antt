@@ -134,7 +134,7 @@ raises image s end incarnation l block up below =
         absurd (omega (arith, n.current (omega (arith, lsn)), is, below x (omega (arith, places_rise image end incarnation first_place front), omega (arith, some, n.stored.within))))
 
 -- the last end is where the log ends
-last_end : (low high : ℕ) (es : List ℕ) → RisesTo low high es → (high ≡ low) ⊎ Contains es high
+pub last_end : (low high : ℕ) (es : List ℕ) → RisesTo low high es → (high ≡ low) ⊎ Contains es high
 last_end low high [] p = inl (sym p)
 last_end low high (e ∷ es) p = elim (last_end e high es p.1) [
   | inl here ↦ inr (0, omega arith, sym here)

@@ -12,9 +12,6 @@ use Rattle.ag_outside.specs.Moments.{LeavesOnly}
 use Rattle.ag_outside.proofs.Running.{started, goes_on}
 use Rattle.ag_logstore.specs.ReadOnly.{OnlyReads, FailsReading}
 
-pub err_is : {T E : Type 0} {e f : E} → IsErrOf {T = T} (Err e) f → e ≡ f
-err_is is = cc is
-
 -- an error that is handed on
 pub handed_on : {T U E : Type 0} (r : Result T E) (from : Result U E) (x e : E) → IsErrAnd r (λ y. y ≡ x) → IsErrOf r e → from ≡ Err x → IsErrOf from e
 handed_on {T = T} {E = E} r from x e h is was = was ∙ ap (λ y. Err y) (sym (subst (λ (z : Result T E). IsErrAnd z (λ y. y ≡ x)) is h))

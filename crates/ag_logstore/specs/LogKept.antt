@@ -1,10 +1,9 @@
 -- What a log in memory keeps beside its records.
-use Rattle.std.specs.Prelude.{◌≡◌, ℕ, ◌+◌, ◌<◌, ◌≤◌, List, [], ◌∷◌, length, nat_le, if◌then◌else◌}
-use Rattle.std.specs.List.{flat_map, fold, enumerate_from}
+use Rattle.std.specs.Prelude.{◌≡◌, ℕ, ◌+◌, ◌<◌, ◌≤◌, List, [], ◌∷◌, length, if◌then◌else◌}
 use Rattle.ag_model.specs.declared.config.TermStart.{TermStart}
 use Rattle.ag_model.specs.declared.record.Record.{Record}
 use Rattle.ag_model.specs.declared.record.Log.{Log}
-use Rattle.ag_model.specs.Starts.{start_by, term_starts}
+use Rattle.ag_model.specs.Starts.{term_starts}
 use Rattle.ag_model.specs.Sizes.{records_size, log_sectors}
 use Rattle.ag_record.specs.Spelling.{HaveSpelling}
 use Rattle.ag_logstore.specs.Blocks.{AreBlocks}
@@ -13,14 +12,6 @@ use Rattle.ag_logstore.specs.Blocks.{AreBlocks}
 abbrev pub RisesTo : ℕ → ℕ → List ℕ → Type 0
 RisesTo low high [] = low ≡ high
 RisesTo low high (e ∷ es) = (low < e) × RisesTo e high es
-
--- the term starts of records that come after an LSN
-abbrev pub starts_after : ℕ → List Record → List TermStart
-starts_after lsn rs = flat_map (λ r. start_by r.0 r.1) (enumerate_from (lsn + 1) rs)
-
--- the term of the last of these starts up to an LSN, or 0
-abbrev pub term_by : ℕ → List TermStart → ℕ
-term_by last starts = fold (λ term s. if nat_le s.lsn last then s.term else term) 0 starts
 
 -- blocks that end there take at most 15488 bytes each, where the first one starts after an LSN
 abbrev pub AreSmall : ℕ → List ℕ → List Record → Type 0

@@ -7,8 +7,9 @@ use Rattle.ag_model.specs.Blocks.{with_block}
 use Rattle.ag_model.specs.Sizes.{log_sectors, block_sectors}
 use Rattle.ag_record.specs.Spelling.{records_spelling, ArePayload}
 use Rattle.ag_logblock.specs.Block.{HasBlock}
+use Rattle.ag_outside.specs.Calls.{Piece}
 use Rattle.ag_outside.specs.Disks.{Content, Image, writes, WroteSo, Only}
-use Rattle.ag_logstore.specs.Stored.{log_start, log_end, IsLogSector, Stored, incarnation_at}
+use Rattle.ag_logstore.specs.Stored.{log_start, log_end, IsLogSector, Stored, sectors_of, incarnation_at}
 use Rattle.ag_logstore.specs.LogOf.{IsLogOf}
 
 -- what is seen of a store
@@ -25,6 +26,14 @@ sector_after log = log_start + log_sectors log
 -- a block with the incarnation that it is written with
 abbrev pub stored_by : ℕ → BlockOf → Stored
 stored_by incarnation b = record { head = record { term = b.term; incarnation = incarnation; first = b.first }; records = b.records }
+
+-- the sectors of a block with this incarnation
+abbrev pub sectors_by : ℕ → BlockOf → List (List ℕ)
+sectors_by incarnation b = sectors_of (stored_by incarnation b)
+
+-- the piece of them that is written after the blocks of a log
+abbrev pub piece_by : Log → ℕ → BlockOf → Piece
+piece_by log incarnation b = record { first = sector_after log; sectors = sectors_by incarnation b }
 
 -- The image has the store's log. No sector of the log names a greater incarnation, and none after the blocks names this one.
 pub record IsCurrent (image : Image) (s : StoreView) : Type 0 where

@@ -9,7 +9,7 @@ ghost use Rattle.ag_outside.specs.Disks.{writes, put_all, WroteSo, Only};
 ghost use Rattle.ag_outside.specs.Moments.{LeavesOnly};
 ghost use Rattle.ag_outside.specs.Calls.{TakesAll, FailsOnTheWay};
 ghost use Rattle.ag_logstore.specs.Stored.{log_end, sectors_of};
-ghost use Rattle.ag_logstore.specs.Stores.{sector_after, stored_by};
+ghost use Rattle.ag_logstore.specs.Stores.{sector_after, stored_by, sectors_by, piece_by};
 
 use crate::fault::LogFault;
 use crate::hardened::HardenedLog;
@@ -39,16 +39,17 @@ pub(crate) fn harden<D: Disk>(
     ensures end { IfOk result (λ end. end ≡ length log.old.records + length block.now.records) }
     ensures err { OnErr result (log.new ≡ log.old) }
     ensures block { HasBlock (stored_by incarnation block.now).head (records_spelling block.now.records) }
-    ensures written { OnOk result (IsTrue (D.keeps disk.old) → D.reads disk.new ≡ put_all (D.reads disk.old) (writes (sector_after log.old) (sectors_of (stored_by incarnation block.now)))) }
+    ensures written { OnOk result (IsTrue (D.keeps disk.old) → D.reads disk.new ≡ put_all (D.reads disk.old) (writes (sector_after log.old) (sectors_by incarnation block.now))) }
     ensures durable { OnOk result (IsTrue (D.keeps disk.old) → Only (D.reads disk.new) (D.may_hold disk.new)) }
-    ensures any_moment { LeavesOnly D.moment D.left_since disk.old disk.new (λ image. (at : ℕ) → D.may_hold disk.old at (image at) ⊎ WroteSo (writes (sector_after log.old) (sectors_of (stored_by incarnation block.now))) at (image at)) }
+    ensures any_moment { LeavesOnly D.moment D.left_since disk.old disk.new (λ image. (at : ℕ)
+        → D.may_hold disk.old at (image at) ⊎ WroteSo (writes (sector_after log.old) (sectors_by incarnation block.now)) at (image at)) }
     ensures fault { IsErrOf result LogFault.DiskFault → HasRisen (D.faults disk.old) (D.faults disk.new) }
     ensures only { OnErr result ((result ≡ Err LogFault.DiskFault) ⊎ (result ≡ Err LogFault.NoMemory)) }
     ensures faults { D.faults disk.old ≤ D.faults disk.new }
     ensures size { D.size disk.new ≡ D.size disk.old }
     ensures keeps { D.keeps disk.new ≡ D.keeps disk.old }
-    ensures calls { OnOk result (TakesAll D.did disk.old (record { first = sector_after log.old; sectors = sectors_of (stored_by incarnation block.now) } ∷ []) disk.new) }
-    ensures broken { IsErrOf result LogFault.DiskFault → FailsOnTheWay D.did disk.old (record { first = sector_after log.old; sectors = sectors_of (stored_by incarnation block.now) } ∷ []) disk.new }
+    ensures calls { OnOk result (TakesAll D.did disk.old (piece_by log.old incarnation block.now ∷ []) disk.new) }
+    ensures broken { IsErrOf result LogFault.DiskFault → FailsOnTheWay D.did disk.old (piece_by log.old incarnation block.now ∷ []) disk.new }
 {
     let sectors = spell(
         log.alloc(),

@@ -1,7 +1,7 @@
 //! More records at the end of a log.
 ghost use Rattle.std.specs.Prelude.{◌≡◌, ◌+◌, ◌^◌, ◌<◌, ◌++◌, ◌∷◌, [], length, OnOk, OnErr};
 ghost use Rattle.ag_model.specs.Starts.{start_by};
-ghost use Rattle.ag_logstore.specs.LogKept.{starts_after};
+ghost use Rattle.ag_ends.specs.Starts.{starts_after};
 
 use ag_model::config::TermStart;
 use ag_model::record::{Record, RecordList};

@@ -11,7 +11,8 @@ ghost use Rattle.ag_logstore.specs.Stores.{StoreView, sector_after, IsCurrent, I
 /// An image has one log at most, and it depends on the sectors of the log alone.
 pub fn logs()
     ensures one { (image : Image) (cut incarnation : ℕ) (log other : Log) → IsLogOf image cut incarnation log → IsLogOf image cut incarnation other → log ≡ other }
-    ensures region { (image other : Image) (cut incarnation : ℕ) (log : Log) → IsLogOf image cut incarnation log → ((at : ℕ) → IsLogSector at → or_zeros (other at) ≡ or_zeros (image at)) → IsLogOf other cut incarnation log }
+    ensures region { (image other : Image) (cut incarnation : ℕ) (log : Log) → IsLogOf image cut incarnation log
+        → ((at : ℕ) → IsLogSector at → or_zeros (other at) ≡ or_zeros (image at)) → IsLogOf other cut incarnation log }
     ensures current { (image other : Image) (s : StoreView) → IsCurrent image s → ((at : ℕ) → IsLogSector at → or_zeros (other at) ≡ or_zeros (image at)) → IsCurrent other s }
 {}
 

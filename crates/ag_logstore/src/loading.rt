@@ -70,7 +70,8 @@ fn read_block<D: Disk>(
     at: u32,
 ) -> Result<Option<(Head, RecordList)>, LogFault>
     requires place { log_end ≤ D.size disk.old }
-    ensures block { IfOk result (λ found. IsTrue (D.keeps disk.old) → MatchOption found ((b : Stored) → IsStored (D.reads disk.old) at b → ⊥) (λ b. IsStored (D.reads disk.old) at (record { head = b.0; records = b.1 }))) }
+    ensures block { IfOk result (λ found. IsTrue (D.keeps disk.old)
+        → MatchOption found ((b : Stored) → IsStored (D.reads disk.old) at b → ⊥) (λ b. IsStored (D.reads disk.old) at (record { head = b.0; records = b.1 }))) }
     ensures within { IfOk result (λ found. MatchOption found (Unit {0}) (λ b. ArePayload b.1 × (at + block_sectors b.1 ≤ log_end))) }
     ensures stays { OnlyReads D.size D.keeps D.reads D.may_hold D.moment D.left_since D.faults D.did disk.old disk.new }
     ensures only { OnErr result ((result ≡ Err LogFault.DiskFault) ⊎ (result ≡ Err LogFault.NoMemory)) }

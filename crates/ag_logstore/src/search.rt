@@ -5,7 +5,7 @@ ghost use Rattle.std.specs.List.{slice_get, filter};
 ghost use Rattle.std.specs.List.Sorted.{IsNonDecreasingBy};
 ghost use Rattle.ag_model.specs.Blocks.{end_of_block, next_end};
 ghost use Rattle.ag_model.specs.Proper.{RisesFrom};
-ghost use Rattle.ag_logstore.specs.LogKept.{term_by};
+ghost use Rattle.ag_ends.specs.Starts.{term_by};
 
 use ag_model::config::TermStart;
 

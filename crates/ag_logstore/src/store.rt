@@ -7,9 +7,9 @@ ghost use Rattle.ag_outside.specs.Counts.{HasRisen};
 ghost use Rattle.ag_outside.specs.Disks.{writes, put_all, MayAdd, Only, IsImage};
 ghost use Rattle.ag_outside.specs.Moments.{LeavesOnly};
 ghost use Rattle.ag_outside.specs.Calls.{TakesAll, FailsOnTheWay};
-ghost use Rattle.ag_logstore.specs.Stored.{log_end, sectors_of};
+ghost use Rattle.ag_logstore.specs.Stored.{log_end};
 ghost use Rattle.ag_logstore.specs.LogOf.{IsLogOf};
-ghost use Rattle.ag_logstore.specs.Stores.{StoreView, sector_after, stored_by, IsReady, IsBeforeOrAfter};
+ghost use Rattle.ag_logstore.specs.Stores.{StoreView, sector_after, sectors_by, piece_by, IsReady, IsBeforeOrAfter};
 
 use crate::appending::harden;
 use crate::fault::{LogFault, fault_of};
@@ -130,7 +130,7 @@ impl LogStore {
         ensures end { IfOk result (λ end. end ≡ length self.old.log.records + length block.now.records) }
 
         // After Ok the disk has the log with the block, and a crash leaves what is read.
-        ensures written { OnOk result (IsTrue (D.keeps disk.old) → D.reads disk.new ≡ put_all (D.reads disk.old) (writes (sector_after self.old.log) (sectors_of (stored_by self.old.incarnation block.now)))) }
+        ensures written { OnOk result (IsTrue (D.keeps disk.old) → D.reads disk.new ≡ put_all (D.reads disk.old) (writes (sector_after self.old.log) (sectors_by self.old.incarnation block.now))) }
         ensures log { OnOk result (IsTrue (D.keeps disk.old) → IsLogOf (D.reads disk.new) self.old.cut self.old.incarnation (with_block self.old.log block.now.records)) }
         ensures durable { OnOk result (IsTrue (D.keeps disk.old) → Only (D.reads disk.new) (D.may_hold disk.new)) }
         ensures ready { OnOk result (IsReady (D.keeps disk.new) (D.reads disk.new) (D.may_hold disk.new) self.new) }
@@ -150,8 +150,8 @@ impl LogStore {
         ensures keeps { D.keeps disk.new ≡ D.keeps disk.old }
 
         // The disk takes the sectors and syncs them, or fails on the way.
-        ensures calls { OnOk result (TakesAll D.did disk.old (record { first = sector_after self.old.log; sectors = sectors_of (stored_by self.old.incarnation block.now) } ∷ []) disk.new) }
-        ensures broken { IsErrOf result LogFault.DiskFault → FailsOnTheWay D.did disk.old (record { first = sector_after self.old.log; sectors = sectors_of (stored_by self.old.incarnation block.now) } ∷ []) disk.new }
+        ensures calls { OnOk result (TakesAll D.did disk.old (piece_by self.old.log self.old.incarnation block.now ∷ []) disk.new) }
+        ensures broken { IsErrOf result LogFault.DiskFault → FailsOnTheWay D.did disk.old (piece_by self.old.log self.old.incarnation block.now ∷ []) disk.new }
     {
         let need = block_sectors_of(small_size(block.records.as_slice())) as u32;
         let free = self.free();

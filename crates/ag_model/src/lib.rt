@@ -7,6 +7,7 @@ pub mod event;
 pub mod laws;
 pub mod list;
 pub mod message;
+pub mod page;
 pub mod page_set;
 pub mod record;
 pub mod stands;

@@ -20,11 +20,6 @@ made_at P f (q ∷ ps) p all there = elim (or_cases (eqb p q) (contains p ps) th
   | inr later ↦ made_at P f ps p all.1 later
 ]
 
--- what holds at each place
-pub all_from : {X : Type 0} (P : X → Type 0) (d : X) (xs : List X) → ((k : ℕ) → k < length xs → P (get_or xs k d)) → AllByRecursion P xs
-all_from P d [] each = tt
-all_from P d (x ∷ xs) each = (each 0 (omega arith), all_from P d xs (λ k lt. each (suc k) (omega (arith, lt))))
-
 pub all_in : (P : ℕ → Type 0) (ps : List ℕ) → ((p : ℕ) → contains p ps ≡ true → P p) → AllByRecursion P ps
 all_in P [] each = tt
 all_in P (p ∷ ps) each = (

@@ -4,6 +4,7 @@ use Rattle.std.specs.List.{list_any}
 use Rattle.std.proofs.Math.Bool.{or-false}
 use Rattle.std.proofs.Math.Nat.{mod-lt}
 use Rattle.std.proofs.lemmas.Bool.Decides.{eqb_tells, nat_tests}
+use Rattle.std.proofs.lemmas.Bool.{and_left, eqb-true}
 use Rattle.ag_model.specs.declared.record.Log.{Log}
 use Rattle.ag_model.specs.declared.record.Record.{Record}
 use Rattle.ag_model.specs.Rows.{stripe_of, page_of, touches}
@@ -51,19 +52,13 @@ none true true c e = e
 none true false c e = refl
 none false b c e = refl
 
-first-false : (a b : Bool) → a ≡ false → (a && b) ≡ false
-first-false a b e = ap (λ (x : Bool). x && b) e
-
 first-true : (a b : Bool) → (a && b) ≡ true → a ≡ true
 first-true true b e = refl
 first-true false b e = cc
 
-eq-of : (a b : ℕ) → eqb a b ≡ true → a ≡ b
-eq-of a b e = elim (eqb_tells a b) [ inl here ↦ here.1 | inr apart ↦ absurd (let f = apart.0 in cc) ]
-
 -- a page of a stripe is in that stripe
 pub of-stripe : (v : PagesView) (number page : ℕ) → is_of v number page ≡ true → stripe_of page ≡ number
-of-stripe v number page e = eq-of (stripe_of page) number (third (leb 16 page) (ltb page (16 + v.count)) (eqb (stripe_of page) number) e)
+of-stripe v number page e = eqb-true (stripe_of page) number (third (leb 16 page) (ltb page (16 + v.count)) (eqb (stripe_of page) number) e)
 
 joins : (a b c : Bool) → (a && b) ≡ true → c ≡ true → (a && (b && c)) ≡ true
 joins true true c e f = f
@@ -98,7 +93,7 @@ key-own count key places s all at =
 -- a page of another stripe isn't touched
 other-touched : (v : PagesView) (number : ℕ) (records : List Record) (page : ℕ) → eqb (stripe_of page) number ≡ false → is_touched v number records page ≡ false
 other-touched v number records page e =
-    first-false (is_of v number page) (list_any (touches v.count page) records) (none (leb 16 page) (ltb page (16 + v.count)) (eqb (stripe_of page) number) e)
+    and_left (is_of v number page) (list_any (touches v.count page) records) (none (leb 16 page) (ltb page (16 + v.count)) (eqb (stripe_of page) number) e)
 
 pub touched-stripe : (v : PagesView) (number : ℕ) (records : List Record) (page : ℕ) → is_touched v number records page ≡ true → stripe_of page ≡ number
 touched-stripe v number records page e = of-stripe v number page (first-true (is_of v number page) (list_any (touches v.count page) records) e)

@@ -1,7 +1,9 @@
 -- Dirty pages on the way to their images.
 use Rattle.std.proofs.Common.{◌≡◌, ℕ, zero, suc, ◌+◌, ◌<◌, Bool, true, false, cond, ◌||◌, ◌&&◌, eqb, ltb, leb, List, [], ◌∷◌, ◌++◌, length, take, get_or, set, refl, sym, ap, subst, ◌∙◌, arith}
 use Rattle.std.specs.List.{AllByRecursion}
-use Rattle.std.proofs.lemmas.List.{length-map, map-append, take_more}
+use Rattle.std.proofs.lemmas.List.{length-map, map-append, take_more, take_more_set}
+use Rattle.std.proofs.Math.Bool.{or-false}
+use Rattle.ag_lists.proofs.Each.{all_push}
 use Rattle.ag_model.specs.Rows.{contains}
 use Rattle.ag_outside.specs.Disks.{Image}
 use Rattle.ag_pagestore.specs.declared.batch.PageWrite.{PageWrite}
@@ -50,21 +52,8 @@ are_pages a b (p ∷ ps) same all = (page_same a b p same all.0.own, are_pages a
 
 -- ---- one page more
 
-pub all_at : {X : Type 0} (P : X → Type 0) (xs : List X) (i : ℕ) (d : X) → AllByRecursion P xs → i < length xs → P (get_or xs i d)
-all_at P [] i d all lt = absurd (omega (arith, lt))
-all_at P (x ∷ xs) zero d all lt = all.0
-all_at P (x ∷ xs) (suc i) d all lt = all_at P xs i d all.1 (omega (arith, lt))
-
-all_end : {X : Type 0} (P : X → Type 0) (xs : List X) (x : X) → AllByRecursion P xs → P x → AllByRecursion P (xs ++ x ∷ [])
-all_end P [] x all here = (here, tt)
-all_end P (y ∷ ys) x all here = (all.0, all_end P ys x all.1 here)
-
 pub any_end : (q : ℕ) (xs : List ℕ) (x : ℕ) → contains q (xs ++ x ∷ []) ≡ (contains q xs || eqb q x)
-any_end q [] x = by_test (eqb q x)
-  where
-    by_test : (b : Bool) → (b || false) ≡ b
-    by_test true = refl
-    by_test false = refl
+any_end q [] x = or-false (eqb q x)
 any_end q (y ∷ ys) x = by_test (eqb q y) (any_end q ys x)
   where
     by_test : (b : Bool) → contains q (ys ++ x ∷ []) ≡ (contains q ys || eqb q x) → (b || contains q (ys ++ x ∷ [])) ≡ ((b || contains q ys) || eqb q x)
@@ -77,14 +66,6 @@ clean_more q xs i d was mid now lt before here =
     here ∙ ap (cond (eqb q (get_or xs i d)) false) before ∙ clean_both (contains q (take i xs)) (eqb q (get_or xs i d)) was
     ∙ ap (λ (t : Bool). cond t false was) (sym (ap (contains q) (take_more xs i d lt) ∙ any_end q (take i xs) (get_or xs i d)))
 
--- the item that was set is the last of those taken
-take_set : {X : Type 0} (xs : List X) (i : ℕ) (x : X) → i < length xs → take (i + 1) (set xs i x) ≡ take i xs ++ x ∷ []
-take_set [] i x lt = absurd (omega (arith, lt))
-take_set (y ∷ ys) zero x lt = refl
-take_set {X = X} (y ∷ ys) (suc i) x lt =
-    let e : suc i + 1 ≡ suc (i + 1) = omega arith in
-    ap (λ (n : ℕ). take n (y ∷ set ys i x)) e ∙ ap (λ (z : List X). y ∷ z) (take_set ys i x (omega (arith, lt)))
-
 -- one image more
 module _ (told : Told) (a b : PagesView) (reads : OnlyReadsIn told a b) (pages : List ℕ) (i d : ℕ) (lt : i < length pages) (w : IsToWrite a (get_or pages i d)) where
   pub write_again : page_write (slot b) (get_or pages i d) ≡ page_write (slot a) (get_or pages i d)
@@ -92,16 +73,16 @@ module _ (told : Told) (a b : PagesView) (reads : OnlyReadsIn told a b) (pages :
 
   pub writes_more : (writes : List PageWrite) (one : PageWrite) → i < length writes → take i writes ≡ page_writes (slot a) (take i pages) → one ≡ page_write (slot b) (get_or pages i d) → take (i + 1) (set writes i one) ≡ page_writes (slot a) (take (i + 1) pages)
   writes_more writes one within before is =
-      take_set writes i one within
+      take_more_set writes i one within
       ∙ ap (λ (z : List PageWrite). z ++ one ∷ []) before ∙ ap (λ (x : PageWrite). page_writes (slot a) (take i pages) ++ x ∷ []) (is ∙ write_again)
       ∙ sym (ap (page_writes (slot a)) (take_more pages i d lt) ∙ map-append (page_write (slot a)) (take i pages) (get_or pages i d ∷ []))
 
   pub whole_more : AllByRecursion IsWhole (page_writes (slot a) (take i pages)) → IsWhole (page_write (slot b) (get_or pages i d)) → AllByRecursion IsWhole (page_writes (slot a) (take (i + 1) pages))
   whole_more before here =
       subst (AllByRecursion IsWhole) (sym (ap (page_writes (slot a)) (take_more pages i d lt) ∙ map-append (page_write (slot a)) (take i pages) (get_or pages i d ∷ [])))
-      (all_end IsWhole (page_writes (slot a) (take i pages)) (page_write (slot a) (get_or pages i d)) before (subst IsWhole write_again here))
+      (all_push IsWhole (page_writes (slot a) (take i pages)) (page_write (slot a) (get_or pages i d)) before (subst IsWhole write_again here))
 
   pub fit_more : AllByRecursion (HasItsImage (slot a)) (take i pages) → HasItsImage (slot b) (get_or pages i d) → AllByRecursion (HasItsImage (slot a)) (take (i + 1) pages)
   fit_more before here =
       subst (AllByRecursion (HasItsImage (slot a))) (sym (take_more pages i d lt))
-      (all_end (HasItsImage (slot a)) (take i pages) (get_or pages i d) before (fit_same (slot a) (slot b) (get_or pages i d) (λ page v is. reads.kept page v is) w.value.0 w.value.1 here))
+      (all_push (HasItsImage (slot a)) (take i pages) (get_or pages i d) before (fit_same (slot a) (slot b) (get_or pages i d) (λ page v is. reads.kept page v is) w.value.0 w.value.1 here))

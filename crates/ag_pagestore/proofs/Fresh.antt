@@ -2,7 +2,7 @@
 use Rattle.std.proofs.Common.{◌≡◌, ◌+◌, ◌<◌, ◌≤◌, ℕ, zero, suc, List, [], ◌∷◌, length, get_or, Bool, true, false, not, cond, eqb, ◌||◌, ◌&&◌, refl, sym, ap, ◌∙◌, arith, inl, inr}
 use Rattle.std.specs.List.{filter, list_any, list_all, range_with_len}
 use Rattle.std.proofs.lemmas.Bool.Decides.{eqb_tells}
-use Rattle.std.proofs.lemmas.Bool.{cases_eq, or_from}
+use Rattle.std.proofs.lemmas.Bool.{cases_eq, or_from, not-true, and_parts}
 use Rattle.ag_model.specs.declared.answer.Cell.{Cell}
 use Rattle.ag_model.specs.declared.answer.Cell.TheVariants.{Mark, Lost}
 use Rattle.ag_model.specs.Cells.{same_mark, is_sound, next_mark, next_of, first_or_zero, free_mark, mark_after}
@@ -78,14 +78,10 @@ first_passes : (p : ℕ → Bool) (xs : List ℕ) → 0 < length (filter p xs) �
 first_passes p [] lt = absurd (omega arith)
 first_passes p (x ∷ xs) lt = first_case p x xs (p x) refl (first_passes p xs) lt
 
-not_true : (b : Bool) → not b ≡ true → b ≡ false
-not_true true is = cc
-not_true false is = refl
-
 -- a free mark is there, and no sector has it
 free_passes : (cells : List Cell) (from n : ℕ) → 0 < length (unused cells from n) → has (first_or_zero (unused cells from n)) cells ≡ false
 unfolding unused
-free_passes cells from n some = not_true (has (first_or_zero (unused cells from n)) cells) (first_passes (λ m. not (has m cells)) (range_with_len from n) some)
+free_passes cells from n some = not-true (has (first_or_zero (unused cells from n)) cells) (first_passes (λ m. not (has m cells)) (range_with_len from n) some)
 
 free_is : (cells : List Cell) → length cells ≤ 16 → has (first_or_zero (unused cells 1 17)) cells ≡ false
 free_is cells few = let many = enough cells 1 17 in free_passes cells 1 17 (omega (arith, many))
@@ -95,11 +91,6 @@ next_apart k is = elim (eqb_tells k 255) [
   | inl here ↦ (let one : next_mark k ≡ 1 = ap (λ (b : Bool). cond b 1 (k + 1)) here.0 in omega (arith, one, is, here.1))
   | inr other ↦ (let more : next_mark k ≡ k + 1 = ap (λ (b : Bool). cond b 1 (k + 1)) other.0 in omega (arith, more, is))
 ]
-
-and_parts : (a b : Bool) → (a && b) ≡ true → (a ≡ true) × (b ≡ true)
-and_parts true true is = (refl, refl)
-and_parts true false is = absurd (cc is)
-and_parts false b is = absurd (cc is)
 
 -- where all have one mark, none has another
 other_mark : (k m : ℕ) (cells : List Cell) → (m ≡ k → ⊥) → list_all (same_mark (Mark k)) cells ≡ true → has m cells ≡ false

@@ -2,7 +2,6 @@ pub mod Faults
 pub mod Fresh
 pub mod Kept
 pub mod Leading
-pub mod Lists
 pub mod Mixed
 pub mod Moving
 pub mod Pages

@@ -1,7 +1,7 @@
 -- An image of which each sector is an old one or a new one.
 use Rattle.std.proofs.Common.{◌≡◌, ◌⊎◌, ◌<◌, ℕ, suc, List, [], ◌∷◌, ◌++◌, length, get_or, take, slice_index, None, Bool, true, false, ◌&&◌, refl, sym, ap, ◌∙◌, arith, inl, inr}
 use Rattle.std.specs.List.{list_all, AllByRecursion}
-use Rattle.std.proofs.lemmas.Bool.{or_parts}
+use Rattle.std.proofs.lemmas.Bool.{or_parts, and_right}
 use Rattle.std.proofs.lemmas.Bool.Decides.{eqb_tells}
 use Rattle.std.proofs.lemmas.List.{get_or_at, length-take, length-map}
 use Rattle.ag_model.specs.declared.answer.Cell.{Cell}
@@ -29,10 +29,6 @@ mixed_from (o ∷ os) (n ∷ ns) [] a b each = absurd (omega (arith, a, b))
 abbrev pub AllMark : ℕ → List Content → Type 0
 AllMark m ns = AllByRecursion (λ n. cell_of n ≡ Mark m) ns
 
-and_none : (a b : Bool) → b ≡ false → (a && b) ≡ false
-and_none true b is = is
-and_none false b is = refl
-
 -- from a sector with another mark on, all are old, or the marks differ
 from_old : (m : ℕ) (first : Cell) (os ns xs : List Content) → same_mark first (Mark m) ≡ false → AllMark m ns → Mixed os ns xs → (xs ≡ os) ⊎ (list_all (same_mark first) (cells_of xs) ≡ false)
 from_old m first [] [] [] apart new mixed = inl refl
@@ -40,7 +36,7 @@ from_old m first (o ∷ os) (n ∷ ns) (x ∷ xs) apart new mixed = elim mixed.0
   | inr is ↦ inr (ap (λ (c : Cell). same_mark first c && list_all (same_mark first) (cells_of xs)) (ap cell_of is ∙ new.0) ∙ ap (λ (b : Bool). b && list_all (same_mark first) (cells_of xs)) apart)
   | inl is ↦ elim (from_old m first os ns xs apart new.1 mixed.1) [
     | inl all ↦ inl (ap (λ (c : Content). c ∷ xs) is ∙ ap (λ (z : List Content). o ∷ z) all)
-    | inr differ ↦ inr (and_none (same_mark first (cell_of x)) (list_all (same_mark first) (cells_of xs)) differ)
+    | inr differ ↦ inr (and_right (same_mark first (cell_of x)) (list_all (same_mark first) (cells_of xs)) differ)
   ]
 ]
 from_old m first [] (n ∷ ns) xs apart new mixed = absurd mixed
@@ -57,7 +53,7 @@ from_new m (o ∷ os) (n ∷ ns) (x ∷ xs) fresh mixed =
       | inl is ↦ inr (ap (λ (c : Content). same_mark (Mark m) (cell_of c) && list_all (same_mark (Mark m)) (cells_of xs)) is ∙ ap (λ (b : Bool). b && list_all (same_mark (Mark m)) (cells_of xs)) parts.0)
       | inr is ↦ elim (from_new m os ns xs parts.1 mixed.1) [
         | inl all ↦ inl (ap (λ (c : Content). c ∷ xs) is ∙ ap (λ (z : List Content). n ∷ z) all)
-        | inr differ ↦ inr (and_none (same_mark (Mark m) (cell_of x)) (list_all (same_mark (Mark m)) (cells_of xs)) differ)
+        | inr differ ↦ inr (and_right (same_mark (Mark m) (cell_of x)) (list_all (same_mark (Mark m)) (cells_of xs)) differ)
       ]
     ]
 from_new m [] (n ∷ ns) xs fresh mixed = absurd mixed

@@ -4,6 +4,7 @@ use Rattle.std.specs.List.{AllByRecursion}
 use Rattle.std.proofs.lemmas.List.{take_more, append-nil, take-append-drop, map-append, get_or-set_same, get_or-set_other}
 use Rattle.std.proofs.lemmas.List.Concat.{flat_map-append}
 use Rattle.std.proofs.lemmas.Bool.{cases_eq}
+use Rattle.ag_lists.proofs.Places.{same_at}
 use Rattle.ag_model.specs.Cells.{mark_after}
 use Rattle.ag_outside.specs.declared.disk.SectorWrite.{SectorWrite}
 use Rattle.ag_outside.specs.Disks.{Content, Image, writes, put_all, MayAdd, IsImage}
@@ -30,14 +31,9 @@ place_below low batch i size d rises lt le = let below = page_below low batch i 
 pub next_more : (disk : Image) (batch : List PageWrite) (marks : List ℕ) (i mark : ℕ) (at : PageWrite) → i < length batch → i < length marks → ((k : ℕ) (d : PageWrite) → k < i → get_or marks k 0 ≡ mark_after (page_cells disk (get_or batch k d).page)) → mark ≡ mark_after (page_cells disk (get_or batch i at).page)
     → (k : ℕ) (d : PageWrite) → k < i + 1 → get_or (set marks i mark) k 0 ≡ mark_after (page_cells disk (get_or batch k d).page)
 next_more disk batch marks i mark at within lt before here k d below = elim (cases_eq k i) [
-  | inl is ↦ ap (λ (j : ℕ). get_or (set marks i mark) j 0) is ∙ get_or-set_same marks i mark 0 lt ∙ here ∙ ap (λ (w : PageWrite). mark_after (page_cells disk w.page)) (default batch i at d within) ∙ ap (λ (j : ℕ). mark_after (page_cells disk (get_or batch j d).page)) (sym is)
+  | inl is ↦ ap (λ (j : ℕ). get_or (set marks i mark) j 0) is ∙ get_or-set_same marks i mark 0 lt ∙ here ∙ ap (λ (w : PageWrite). mark_after (page_cells disk w.page)) (same_at batch i at d within) ∙ ap (λ (j : ℕ). mark_after (page_cells disk (get_or batch j d).page)) (sym is)
   | inr apart ↦ get_or-set_other marks i k mark 0 apart ∙ before k d (omega arith)
 ]
-  where
-    default : (xs : List PageWrite) (i : ℕ) (a b : PageWrite) → i < length xs → get_or xs i a ≡ get_or xs i b
-    default [] i a b lt = absurd (omega arith)
-    default (x ∷ xs) zero a b lt = refl
-    default (x ∷ xs) (suc i) a b lt = default xs i a b (omega arith)
 
 -- two steps of adding
 pub adds_both : (xs ys : List SectorWrite) (a b c : ℕ → Content → Type 0) → MayAdd xs a b → MayAdd ys b c → MayAdd (xs ++ ys) a c

@@ -3,23 +3,20 @@ use Rattle.std.specs.Prelude.{if◌then◌else◌, nat_lt}
 use Rattle.std.proofs.Common.{◌≡◌, ℕ, ◌+◌, ◌≤◌, ◌<◌, min, List, length, Bool, true, false, refl, sym, ap, ◌∙◌, subst, arith}
 use Rattle.std.specs.Prelude.{◌==◌, ◌||◌, ◌&&◌}
 use Rattle.std.specs.List.{filter}
-use Rattle.std.proofs.lemmas.Bool.{eqb-true}
+use Rattle.std.proofs.lemmas.Bool.{eqb-true, or_from}
 use Rattle.std.proofs.lemmas.Bool.Decides.{nat_tests}
 use Rattle.ag_model.specs.Rows.{contains, page_numbers}
 use Rattle.ag_model.proofs.PageSets.{pages_where-below}
 use Rattle.ag_master.specs.declared.master.Master.{Master}
 use Rattle.ag_rules.specs.Replica.{Replica, records, end}
 use Rattle.ag_rules.specs.ResumeMessage.{foreign_from, still_initialises, may_follow, by_fork, goes_on, reverting_master}
+use Rattle.ag_lists.proofs.Tests.{if_has}
 use Rattle.ag_revert.specs.declared.plans.Plan.{Plan}
 use Rattle.ag_revert.specs.declared.plans.Plan.TheVariants.{Follow, Revert, Continue}
 use Rattle.ag_revert.specs.Touched.{touched_after}
 use Rattle.ag_revert.specs.Planned.{union, rule_master, reverting, planned}
 use Rattle.ag_revert.specs.Resumed.{IsMasterOf, AreBelow, IsDone}
-use Rattle.ag_revert.proofs.Starts.{if_has}
 use Rattle.ag_revert.proofs.Touches.{foreign_agrees}
-
-neither : (x y : Bool) → x ≡ false → y ≡ false → (x || y) ≡ false
-neither x y p q = rw (p, q) refl
 
 -- the tests of a state and a term, where the term counts in that state alone
 same_test : (x y : Bool) (s t term : ℕ) (c : Bool) → x ≡ y → (y ≡ true → s ≡ t) → (x && ((s == term) && c)) ≡ (y && ((t == term) && c))
@@ -35,7 +32,7 @@ module _ (pages n term fork undo : ℕ) (r : Replica) (m : Master) (few : pages 
   same_pages : union m.foreign (touched_after pages (records r) fork) ≡ foreign_from pages r fork
   same_pages =
       pages_where-below (λ p. contains p m.foreign || contains p (touched_after pages (records r) fork)) pages few
-      (λ p above. neither (contains p m.foreign) (contains p (touched_after pages (records r) fork)) (own p above) (new p above))
+      (λ p above. or_from (contains p m.foreign) (contains p (touched_after pages (records r) fork)) (own p above) (new p above))
       ∙ ap (λ ps. filter (λ p. contains p ps || contains p (touched_after pages (records r) fork)) (page_numbers pages)) h.foreign
       ∙ sym (foreign_agrees pages fork r few)
 

@@ -1,58 +1,17 @@
 -- Two lists of term starts, and where their logs part.
 use Rattle.std.specs.Prelude.{if◌then◌else◌}
-use Rattle.std.proofs.Common.{◌≡◌, ℕ, suc, ◌+◌, ◌-◌, ◌<◌, ◌≤◌, min, List, [], ◌∷◌, length, take, drop, Bool, true, false, inl, inr, ◌⊎◌, refl, ◌∙◌, subst, arith}
+use Rattle.std.proofs.Common.{◌≡◌, ℕ, suc, ◌+◌, ◌-◌, ◌<◌, ◌≤◌, min, List, [], ◌∷◌, length, take, drop, Bool, true, false, inl, inr, ◌⊎◌, refl, ◌∙◌, arith}
 use Rattle.std.specs.Prelude.{◌==◌}
-use Rattle.std.specs.List.{flat_map, enumerate_from, common_prefix_len}
+use Rattle.std.specs.List.{common_prefix_len}
 use Rattle.std.proofs.lemmas.Bool.{and_parts, eqb-true}
 use Rattle.std.proofs.lemmas.Bool.Decides.{leb_tells}
 use Rattle.std.proofs.lemmas.List.{length-drop, take_all}
 use Rattle.std.proofs.lemmas.List.Sums.{common_prefix_len-le}
-use Rattle.ag_model.specs.declared.record.Record.{Record}
-use Rattle.ag_model.specs.declared.record.Record.TheVariants.{Put, Del, Commit, Abort, Trim, Term}
 use Rattle.ag_model.specs.declared.config.TermStart.{TermStart}
-use Rattle.ag_model.specs.Starts.{start_by, is_same_start, end_before, fork_of_starts}
+use Rattle.ag_model.specs.Starts.{is_same_start, end_before, fork_of_starts}
+use Rattle.ag_ends.proofs.Rise.{Rise}
+use Rattle.ag_ends.proofs.Forks.{fork_passes}
 use Rattle.ag_revert.specs.Shared.{PassCommon}
-
--- what both branches have, with the test known
-pub if_has : {A : Type 0} (P : A → Type 0) (b : Bool) (x y : A) → (b ≡ true → P x) → (b ≡ false → P y) → P (if b then x else y)
-if_has P true x y t f = t refl
-if_has P false x y t f = f refl
-
--- the starts of a log whose first record has this LSN
-abbrev pub starts_from : ℕ → List Record → List TermStart
-starts_from k log = flat_map (λ r. start_by r.0 r.1) (enumerate_from k log)
-
--- starts rise above low, and none is above high
-abbrev pub Rise : ℕ → ℕ → List TermStart → Type 0
-Rise low high [] = low ≤ high
-Rise low high (s ∷ ss) = (low < s.lsn) × Rise s.lsn high ss
-
-rise_lower : (low low2 high : ℕ) (ss : List TermStart) → low2 ≤ low → Rise low high ss → Rise low2 high ss
-rise_lower low low2 high [] h p = omega arith
-rise_lower low low2 high (s ∷ ss) h p = (omega (arith, p.0), p.1)
-
-pub rise : (k : ℕ) (log : List Record) → Rise k (k + length log) (starts_from (k + 1) log)
-rise k [] = omega arith
-rise k (Term t ∷ log) = (omega arith, subst (λ (h : ℕ). Rise (k + 1) h (starts_from (k + 1 + 1) log)) (omega arith) (rise (k + 1) log))
-rise k (Put t key v ∷ log) = rise_lower (k + 1) k _ _ (omega arith) (subst (λ (h : ℕ). Rise (k + 1) h (starts_from (k + 1 + 1) log)) (omega arith) (rise (k + 1) log))
-rise k (Del t key ∷ log) = rise_lower (k + 1) k _ _ (omega arith) (subst (λ (h : ℕ). Rise (k + 1) h (starts_from (k + 1 + 1) log)) (omega arith) (rise (k + 1) log))
-rise k (Commit t ps ∷ log) = rise_lower (k + 1) k _ _ (omega arith) (subst (λ (h : ℕ). Rise (k + 1) h (starts_from (k + 1 + 1) log)) (omega arith) (rise (k + 1) log))
-rise k (Abort t ps ∷ log) = rise_lower (k + 1) k _ _ (omega arith) (subst (λ (h : ℕ). Rise (k + 1) h (starts_from (k + 1 + 1) log)) (omega arith) (rise (k + 1) log))
-rise k (Trim p h ∷ log) = rise_lower (k + 1) k _ _ (omega arith) (subst (λ (h : ℕ). Rise (k + 1) h (starts_from (k + 1 + 1) log)) (omega arith) (rise (k + 1) log))
-
-pub first_above : (low high : ℕ) (ss : List TermStart) → Rise low high ss → low ≤ end_before ss high
-first_above low high [] p = p
-first_above low high (s ∷ ss) p = omega (arith, p.0)
-
--- logs whose starts rise above an LSN don't part below it
-pub fork_above : (low e e2 : ℕ) (ss ts : List TermStart) → Rise low e ss → Rise low e2 ts → low ≤ fork_of_starts ss e ts e2
-unfolding fork_of_starts
-fork_above low e e2 [] ts p q = omega (arith, p, first_above low e2 ts q)
-fork_above low e e2 (s ∷ ss) [] p q = omega (arith, p.0, q)
-fork_above low e e2 (s ∷ ss) (t ∷ ts) p q =
-    if_has (λ (f : ℕ). low ≤ f) (is_same_start s t) _ _
-    (λ _. fork_above low e e2 ss ts (rise_lower s.lsn low e ss (omega (arith, p.0)) p.1) (rise_lower t.lsn low e2 ts (omega (arith, q.0)) q.1))
-    (λ _. omega (arith, p.0, q.0))
 
 -- a log parts from one that ends where its starts begin to rise there
 pub fork_at_end : (low e : ℕ) (ss : List TermStart) → Rise low e ss → fork_of_starts ss e [] low ≡ low
@@ -72,11 +31,6 @@ unfolding fork_of_starts
 fork_stops [] ts e e2 p = refl
 fork_stops (s ∷ ss) [] e e2 p = refl
 fork_stops (s ∷ ss) (t ∷ ts) e e2 p = rw p refl
-
--- a start that is the same in both is passed
-pub fork_passes : (s t : TermStart) (ss ts : List TermStart) (e e2 : ℕ) → is_same_start s t ≡ true → fork_of_starts (s ∷ ss) e (t ∷ ts) e2 ≡ fork_of_starts ss e ts e2
-unfolding fork_of_starts
-fork_passes s t ss ts e e2 p = rw p refl
 
 pub le_cases : (x n : ℕ) → (x ≤ n) ⊎ (n < x)
 le_cases x n = elim (leb_tells x n) [ inl h ↦ inl h.1 | inr h ↦ inr h.1 ]

@@ -1,7 +1,7 @@
 -- Sets of pages that records touch, one after the other.
-use Rattle.std.proofs.Common.{◌≡◌, ℕ, zero, suc, ◌+◌, ◌<◌, ◌≤◌, List, [], ◌∷◌, ◌++◌, length, take, drop, get_or, Bool, true, false, refl, sym, ap, ◌∙◌, arith}
+use Rattle.std.proofs.Common.{◌≡◌, ℕ, zero, suc, ◌+◌, ◌<◌, ◌≤◌, List, [], ◌∷◌, ◌++◌, length, take, drop, get_or, Bool, false, refl, sym, ap, ◌∙◌, arith}
 use Rattle.std.specs.Prelude.{◌==◌, ◌||◌}
-use Rattle.std.specs.List.{filter, list_any, range_with_len, AllByRecursion}
+use Rattle.std.specs.List.{filter, list_any, range_with_len}
 use Rattle.std.proofs.lemmas.List.Folds.{list_any_more}
 use Rattle.ag_model.specs.declared.record.Record.{Record}
 use Rattle.ag_model.specs.Rows.{contains, page_numbers, touches}
@@ -9,6 +9,7 @@ use Rattle.ag_model.specs.PageSets.{most_pages, pages_where}
 use Rattle.ag_model.specs.PageBits.{contains-pages_where}
 use Rattle.ag_rules.specs.Replica.{Replica, records, is_foreign}
 use Rattle.ag_rules.specs.ResumeMessage.{foreign_from}
+use Rattle.ag_lists.proofs.Tests.{or_comm, or_assoc}
 use Rattle.ag_revert.specs.Touched.{touched_after}
 use Rattle.ag_model.proofs.PageSets.{pages_where-agrees}
 
@@ -20,29 +21,11 @@ pages_none = none (page_numbers most_pages)
     none [] = refl
     none (p ∷ ps) = none ps
 
-or_comm : (x y : Bool) → (x || y) ≡ (y || x)
-or_comm true true = refl
-or_comm true false = refl
-or_comm false true = refl
-or_comm false false = refl
-
-or_false : (x : Bool) → (x || false) ≡ x
-or_false true = refl
-or_false false = refl
-
-or_assoc : (x y z : Bool) → ((x || y) || z) ≡ (x || (y || z))
-or_assoc true y z = refl
-or_assoc false y z = refl
-
 -- one more page
 pub pages_add : (q : ℕ → Bool) (page : ℕ) → pages_where (λ p. (p == page) || contains p (pages_where q)) ≡ pages_where (λ p. q p || (p == page))
 pages_add q page =
     pages_where-agrees (λ p. (p == page) || contains p (pages_where q)) (λ p. q p || (p == page))
     (λ p low high. ap (λ b. (p == page) || b) (contains-pages_where q p low high) ∙ or_comm (p == page) (q p))
-
--- no more page
-pub pages_same : (q : ℕ → Bool) → pages_where q ≡ pages_where (λ p. q p || false)
-pages_same q = pages_where-agrees q (λ p. q p || false) (λ p low high. sym (or_false (q p)))
 
 -- one more page of a list
 pub pages_listed : (q : ℕ → Bool) (xs : List ℕ) (i page : ℕ) → i < length xs → page ≡ get_or xs i 0 → pages_where (λ p. (q p || contains p (take i xs)) || (p == page)) ≡ pages_where (λ p. q p || contains p (take (i + 1) xs))
@@ -62,17 +45,6 @@ pages_touched pages xs i x within is =
     ap (λ y. list_any (touches pages p) (take i xs) || touches pages p y) is
     ∙ sym (list_any_more (touches pages p) xs i x within))
 
--- what holds of all holds of those after an LSN, and of each
-pub all_drop : {X : Type 0} (P : X → Type 0) (n : ℕ) (xs : List X) → AllByRecursion P xs → AllByRecursion P (drop n xs)
-all_drop P zero xs p = p
-all_drop P (suc n) [] p = tt
-all_drop P (suc n) (x ∷ xs) p = all_drop P n xs p.1
-
-pub all_at : {X : Type 0} (P : X → Type 0) (xs : List X) (i : ℕ) (d : X) → AllByRecursion P xs → i < length xs → P (get_or xs i d)
-all_at P [] i d p within = absurd (omega arith)
-all_at P (x ∷ xs) zero d p within = p.0
-all_at P (x ∷ xs) (suc i) d p within = all_at P xs i d p.1 (omega arith)
-
 -- what is foreign after a Resume: the pages so far, and those that are touched
 pub foreign_agrees : (pages fork : ℕ) (r : Replica) → pages ≤ 2048 → foreign_from pages r fork ≡ filter (λ p. is_foreign r p || contains p (touched_after pages (records r) fork)) (page_numbers pages)
 foreign_agrees pages fork r few = agrees 16 pages (omega arith) (omega arith)
@@ -85,8 +57,3 @@ foreign_agrees pages fork r few = agrees 16 pages (omega arith) (omega arith)
         sym (contains-pages_where (λ p. list_any (touches pages p) (drop fork (records r))) a low (omega arith)) in
         let tail = agrees (a + 1) n (omega arith) (omega arith) in
         rw (head, tail) refl
-
--- what holds of all, and of one more
-pub all_more : {X : Type 0} (P : X → Type 0) (xs : List X) (x : X) → AllByRecursion P xs → P x → AllByRecursion P (xs ++ x ∷ [])
-all_more P [] x p q = (q, tt)
-all_more P (y ∷ xs) x p q = (p.0, all_more P xs x p.1 q)

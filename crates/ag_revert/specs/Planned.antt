@@ -16,6 +16,10 @@ union one other = pages_where (λ p. contains p one || contains p other)
 abbrev pub rule_master : Master → RuleMaster
 rule_master m = record { term = m.term; state = m.state; incarnation = m.incarnation; redo_start = m.redo; undo = m.undo; foreign = m.foreign }
 
+-- the foreign pages once a replica reverts: those so far and the touched ones
+abbrev pub foreign_then : Master → List ℕ → List ℕ
+foreign_then m touched = union m.foreign touched
+
 -- a master of which the rules say this, with a log that was cut at an LSN
 abbrev pub with_rule_master : Master → RuleMaster → ℕ → Master
 with_rule_master m said cut = record m {
@@ -38,4 +42,4 @@ planned_with m log_end term fork end foreign = by_fork Continue Follow (Revert (
 
 -- what it does, where its own records after the fork touch these pages
 abbrev pub planned : Master → ℕ → ℕ → ℕ → ℕ → List ℕ → Plan
-planned m log_end term fork end touched = planned_with m log_end term fork end (union m.foreign touched)
+planned m log_end term fork end touched = planned_with m log_end term fork end (foreign_then m touched)

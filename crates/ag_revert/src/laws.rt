@@ -12,6 +12,8 @@ ghost use Rattle.ag_revert.specs.Resumed.{IsMasterOf, AreBelow, IsDone};
 /// The foreign pages after a Resume are those so far and the touched ones. An accepted Resume does what is planned with the
 /// replica's master.
 pub fn events_agree()
-    ensures foreign { (pages fork : ℕ) (r : Replica) → pages ≤ 2048 → foreign_from pages r fork ≡ filter (λ p. is_foreign r p || contains p (touched_after pages (records r) fork)) (page_numbers pages) }
-    ensures resume { (pages n term fork undo : ℕ) (r : Replica) (m : Master) → pages ≤ 2048 → IsMasterOf r m → AreBelow pages m.foreign → AreBelow pages (touched_after pages (records r) fork) → IsDone pages n r term fork undo (planned m (end r) term fork undo (touched_after pages (records r) fork)) }
+    ensures foreign { (pages fork : ℕ) (r : Replica) → pages ≤ 2048
+        → foreign_from pages r fork ≡ filter (λ p. is_foreign r p || contains p (touched_after pages (records r) fork)) (page_numbers pages) }
+    ensures resume { (pages n term fork undo : ℕ) (r : Replica) (m : Master) → pages ≤ 2048 → IsMasterOf r m → AreBelow pages m.foreign → AreBelow pages (touched_after pages (records r) fork)
+        → IsDone pages n r term fork undo (planned m (end r) term fork undo (touched_after pages (records r) fork)) }
 {}

@@ -2,7 +2,7 @@
 ghost use Rattle.std.specs.Prelude.{◌≡◌, ◌<◌, ◌+◌, ◌^◌, ◌↔◌, ◌||◌, ◌==◌, ℕ, min, List, length, take, drop, get_or, bit_or, IsTrue, true, false};
 ghost use Rattle.ag_model.specs.PageSets.{pages_where, has_bit};
 ghost use Rattle.ag_rules.specs.ResumeMessage.{still_initialises};
-ghost use Rattle.ag_revert.specs.Planned.{planned, union, reverting};
+ghost use Rattle.ag_revert.specs.Planned.{planned, union, foreign_then, reverting};
 ghost use Rattle.ag_revert.specs.declared.plans.Plan.TheVariants.{Follow, Revert, Continue};
 
 use crate::plans::Plan;
@@ -20,8 +20,10 @@ pub fn plan(m: &Master, log_end: u64, term: u64, fork: u64, end: u64, touched: &
     requires { fork < log_end → m.now.incarnation < 2 ^ 63 }
     ensures result { result ≡ planned m.now log_end term fork end touched.now }
     ensures continues { result ≡ Continue ↔ IsTrue (still_initialises m.now.state m.now.term log_end term fork) }
-    ensures follows { result ≡ Follow ↔ (still_initialises m.now.state m.now.term log_end term fork ≡ false) × (length (union m.now.foreign touched.now) ≡ 0) }
-    ensures reverts { (new : Master) → result ≡ Revert new ↔ (still_initialises m.now.state m.now.term log_end term fork ≡ false) × (0 < length (union m.now.foreign touched.now)) × (new ≡ reverting m.now log_end term fork end (union m.now.foreign touched.now)) }
+    ensures follows { result ≡ Follow ↔ (still_initialises m.now.state m.now.term log_end term fork ≡ false) × (length (foreign_then m.now touched.now) ≡ 0) }
+    ensures reverts { (new : Master) → result ≡ Revert new
+        ↔ (still_initialises m.now.state m.now.term log_end term fork ≡ false) × (0 < length (foreign_then m.now touched.now))
+        × (new ≡ reverting m.now log_end term fork end (foreign_then m.now touched.now)) }
 {
     if still_initialises(m, log_end, term, fork) {
         return Plan::Continue;

@@ -2,8 +2,11 @@
 use Rattle.std.proofs.Common.{◌≡◌, ℕ, ◌+◌, ◌-◌, ◌<◌, ◌≤◌, Bool, true, false, cond, ◌&&◌, ◌||◌, List, [], ◌∷◌, length, get_or, take, refl, sym, ap, subst, ◌∙◌, inl, inr, arith}
 use Rattle.std.specs.Prelude.{Option, Some}
 use Rattle.std.specs.List.{list_any}
-use Rattle.std.proofs.lemmas.Bool.{cases_Bool, eqb-true}
+use Rattle.std.proofs.lemmas.Bool.{cases_Bool, eqb-true, and_from}
 use Rattle.std.proofs.lemmas.List.Sums.{sum_by-append}
+use Rattle.std.proofs.lemmas.List.Folds.{list_any_more, list_any_at}
+use Rattle.std.proofs.Math.Bool.{and-false}
+use Rattle.ag_lists.proofs.Tests.{or_same}
 use mathlib.Core.Logic.{dite}
 use native.Mathlib.Decide.{dec_le}
 use Rattle.ag_model.specs.declared.record.Log.{Log}
@@ -31,7 +34,6 @@ use Rattle.ag_stripe.specs.Redo.{after_record, redone, redone_value, redone_slot
 use Rattle.ag_stripe.proofs.Nexts.{stand-at}
 use Rattle.ag_stripe.proofs.Slots.{owns}
 use Rattle.ag_stripe.proofs.Readings.{own-same}
-use Rattle.ag_stripe.proofs.Visits.{any-front, any-more}
 use Rattle.ag_stripe.proofs.Redone.{redone-below, redone-above}
 use Rattle.ag_stripe.proofs.Touches.{lsn-below, lsn-touched, number-is}
 
@@ -128,9 +130,6 @@ module _ (pages page lsn : ℕ) (log : Log) (r : Record) (low : 16 ≤ page) (hi
       let is : after_record (lsn + 1) r v ≡ value pages log.records (lsn + 1) v.page = after-is pages (lsn + 1) log.records r v due.0 in
       room r v (subst (λ (w : PageValue). versions_size w.versions ≤ 8144) (sym is) (proper.room (lsn + 1) v.page))
 
-and-right : (a b : Bool) → a ≡ true → b ≡ true → (a && b) ≡ true
-and-right a b p q = rw (p, q) refl
-
 -- ---- a run of records
 
 abbrev pub Redone : Table → Table → ℕ → Record → Type 0
@@ -152,20 +151,12 @@ dirty-step old new lsn r h q = by_test (is_own old q && touches old.pages q r) (
     or-true true = refl
     or-true false = refl
 
-    or-false : (b : Bool) → b ≡ (b || false)
-    or-false true = refl
-    or-false false = refl
-
     by_test : (b : Bool) → slot_of new q ≡ cond b (redone_slot lsn r (slot_of old q)) (slot_of old q) → is_dirty new q ≡ (is_dirty old q || b)
     by_test true f = ap (λ (s : Slot). s.dirty) f ∙ or-true (is_dirty old q)
-    by_test false f = ap (λ (s : Slot). s.dirty) f ∙ or-false (is_dirty old q)
+    by_test false f = ap (λ (s : Slot). s.dirty) f ∙ or_same (is_dirty old q) false refl
 
 pub touched-first : (t : Table) (q : ℕ) → is_touched t [] q ≡ false
-touched-first t q = none (is_own t q)
-  where
-    none : (b : Bool) → (b && false) ≡ false
-    none true = refl
-    none false = refl
+touched-first t q = and-false (is_own t q)
 
 -- one record more touches what it touches
 pub dirty-more-records : (start old new : Table) (lsn i : ℕ) (records : List Record) (r : Record) → IsSameTable start old → i < length records → r ≡ get_or records i r → Redone old new lsn r
@@ -174,7 +165,7 @@ dirty-more-records start old new lsn i records r same lt there h inv q =
     dirty-step old new lsn r h q
     ∙ (λ j. inv q j || (own-same start old same q j && touches (same.pages j) q (there j)))
     ∙ regroup (is_dirty start q) (is_own start q) (list_any (touches start.pages q) (take i records)) (touches start.pages q (get_or records i r))
-    ∙ ap (λ (b : Bool). is_dirty start q || (is_own start q && b)) (sym (any-more (touches start.pages q) records i r lt))
+    ∙ ap (λ (b : Bool). is_dirty start q || (is_own start q && b)) (sym (list_any_more (touches start.pages q) records i r lt))
   where
     regroup : (d o a b : Bool) → ((d || (o && a)) || (o && b)) ≡ (d || (o && (a || b)))
     regroup true o a b = refl
@@ -192,7 +183,7 @@ module _ (start old new : Table) (applied lsn i : ℕ) (records : List Record) (
   within log h = (let far = h.reach in omega arith)
 
   touched : (page : ℕ) → is_own start page ≡ true → touches start.pages page r ≡ true → is_touched start records page ≡ true
-  touched page own on = and-right (is_own start page) (list_any (touches start.pages page) records) own (any-front (touches start.pages page) records i r lt (ap (touches start.pages page) (sym there) ∙ on))
+  touched page own on = and_from (is_own start page) (list_any (touches start.pages page) records) own (list_any_at (touches start.pages page) records i r lt (ap (touches start.pages page) (sym there) ∙ on))
 
   pub values-step : Redone old new (lsn + 1) r → (told : Told) (log : Log) (page : ℕ) → AreNext start.pages applied log records → AreKept start records → is_own start page ≡ true
       → IsAhead start.pages log lsn page (known told old page) → IsAhead start.pages log (lsn + 1) page (known told new page)

@@ -44,9 +44,6 @@ some-value : (o n : Option PageValue) (v : PageValue) → is_some n ≡ is_some 
 some-value o (Some w) v same e = (w, refl)
 some-value o None v same e = (let f : false ≡ true = same ∙ ap is_some e in cc)
 
-pub both-true : (a b : Bool) → a ≡ true → b ≡ true → (a && b) ≡ true
-both-true a b p q = rw (p, q) refl
-
 -- the slot of a page became another one
 pub edits-slot : (t now : Table) (page k : ℕ) (s old : Slot) (edited : ℕ → Bool) → t ≡ now → IsTable t → is_own now page ≡ true → k ≡ place_of page → old ≡ get_or t.slots k old
     → is_some s.value ≡ is_some old.value → edited page ≡ true → OnlyEdits now (record { number = t.number; pages = t.pages; slots = set t.slots k s }) edited

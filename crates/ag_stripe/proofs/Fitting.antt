@@ -1,7 +1,7 @@
 -- The value of a page of a proper log has an image.
 use Rattle.std.proofs.Common.{◌≡◌, ℕ, zero, suc, ◌+◌, ◌<◌, ◌≤◌, Bool, true, false, cond, ◌&&◌, eqb, leb, ltb, List, [], ◌∷◌, ◌++◌, take, refl, sym, subst, arith}
 use Rattle.std.specs.List.{enumerate_from, filter, flat_map, list_all, list_any}
-use Rattle.std.proofs.lemmas.Bool.{lt-ltb, le-leb}
+use Rattle.std.proofs.lemmas.Bool.{lt-ltb, le-leb, and_from}
 use Rattle.ag_model.specs.declared.record.Log.{Log}
 use Rattle.ag_model.specs.declared.record.Record.{Record}
 use Rattle.ag_model.specs.declared.record.Record.TheVariants.{Put, Del, Commit, Abort, Trim, Term}
@@ -50,16 +50,13 @@ good-filter p low (w ∷ ws) h = by_test (p w) (good-filter p w.lsn ws h.2)
     by_test true rest = (h.0, h.1, rest)
     by_test false rest = (let q = h.0 in good-lower low w.lsn (filter p ws) (omega arith) rest)
 
-both : (a b : Bool) → a ≡ true → b ≡ true → (a && b) ≡ true
-both a b p q = rw (p, q) refl
-
 good-spelled : (low : ℕ) (ws : List Version) → Good low ws → list_all (λ w. has_spelling w.change) ws ≡ true
 good-spelled low [] h = refl
-good-spelled low (w ∷ ws) h = both (has_spelling w.change) (list_all (λ w. has_spelling w.change) ws) h.1 (good-spelled w.lsn ws h.2)
+good-spelled low (w ∷ ws) h = and_from (has_spelling w.change) (list_all (λ w. has_spelling w.change) ws) h.1 (good-spelled w.lsn ws h.2)
 
 good-from : (low : ℕ) (ws : List Version) → Good low ws → rise_from low ws ≡ true
 good-from low [] h = refl
-good-from low (w ∷ ws) h = both (ltb low w.lsn) (rise_from w.lsn ws) (lt-ltb low w.lsn h.0) (good-from w.lsn ws h.2)
+good-from low (w ∷ ws) h = and_from (ltb low w.lsn) (rise_from w.lsn ws) (lt-ltb low w.lsn h.0) (good-from w.lsn ws h.2)
 
 good-rise : (low : ℕ) (ws : List Version) → Good low ws → rise ws ≡ true
 good-rise low [] h = refl
@@ -78,4 +75,4 @@ pub image-there : (pages page n : ℕ) (log : Log) → IsProper pages log → Ar
 image-there pages page n log proper spelled =
     let vs : List Version = (value pages log.records n page).versions in
     let good = good-value pages page n log.records spelled in
-    both (list_all (λ w. has_spelling w.change) vs && rise vs) (leb (versions_size vs) 8144) (both (list_all (λ w. has_spelling w.change) vs) (rise vs) (good-spelled 0 vs good) (good-rise 0 vs good)) (le-leb (versions_size vs) 8144 (proper.room n page))
+    and_from (list_all (λ w. has_spelling w.change) vs && rise vs) (leb (versions_size vs) 8144) (and_from (list_all (λ w. has_spelling w.change) vs) (rise vs) (good-spelled 0 vs good) (good-rise 0 vs good)) (le-leb (versions_size vs) 8144 (proper.room n page))

@@ -6,6 +6,7 @@ use Rattle.std.proofs.lemmas.Bool.{false≢true, false_from_ne_true}
 use Rattle.std.proofs.lemmas.Option.{slice_get-get_or}
 use Rattle.std.proofs.lemmas.List.{length-append, length-take, length-drop, get_or-take, get_or-drop}
 use Rattle.std.proofs.Math.Seq.{drop-append_seam}
+use Rattle.std.proofs.lemmas.List.Folds.{list_any_at}
 use mathlib.Core.Logic.{dite}
 use native.Mathlib.Decide.{dec_le}
 use Rattle.ag_model.specs.declared.message.Block.{Block}
@@ -21,7 +22,6 @@ use Rattle.ag_version.specs.Steps.{IsAt}
 use Rattle.ag_version.proofs.Untouched.{untouched-value}
 use Rattle.ag_stripe.specs.Ahead.{IsAhead, IsNext, AreNext}
 use Rattle.ag_stripe.specs.Known.Known.{Value}
-use Rattle.ag_stripe.proofs.Visits.{any-front}
 
 -- one of the records that stand in a log after an LSN, by its LSN
 pub stand-at : (applied i : ℕ) (log records : List Record) (r : Record) → i < length records → r ≡ get_or records i r → applied + length records ≤ length log → after_to applied (applied + length records) log ≡ records → IsAt log (applied + i + 1) r
@@ -53,7 +53,7 @@ module _ (pages page lsn redo : ℕ) (log : Log) (low : 16 ≤ page) (high : pag
   off-at i le =
       let same : get_or (after_to lsn redo log.records) i (Term 0) ≡ get_or log.records (lsn + i) (Term 0) = get_or-drop lsn (take redo log.records) i (Term 0) ∙ get_or-take redo log.records (lsn + i) (Term 0) (omega arith) in
       let inside : i < length (after_to lsn redo log.records) = omega (arith, length-drop lsn (take redo log.records), length-take redo log.records) in
-      false_from_ne_true (touches pages page (get_or log.records (lsn + i) (Term 0))) (λ on. false≢true (sym off ∙ any-front (touches pages page) (after_to lsn redo log.records) i (Term 0) inside (ap (touches pages page) same ∙ on)))
+      false_from_ne_true (touches pages page (get_or log.records (lsn + i) (Term 0))) (λ on. false≢true (sym off ∙ list_any_at (touches pages page) (after_to lsn redo log.records) i (Term 0) inside (ap (touches pages page) same ∙ on)))
 
   -- the value of the page stays
   value-stays : (i : ℕ) → lsn + i ≤ redo → value pages log.records (lsn + i) page ≡ value pages log.records lsn page

@@ -6,6 +6,8 @@ use Rattle.std.proofs.lemmas.List.{get_or-set_other}
 use Rattle.std.proofs.lemmas.Grind.{get_or-set_at}
 use Rattle.ag_model.specs.Rows.{contains, stripe_of}
 use Rattle.std.specs.List.{filter, range_with_len}
+use Rattle.ag_lists.proofs.Places.{at_replicate}
+use Rattle.ag_lists.proofs.Tests.{and_three}
 use Rattle.ag_model.specs.PageSets.{pages_where, most_pages}
 use Rattle.ag_model.specs.PageBits.{contains-pages_where}
 use Rattle.ag_model.proofs.PageSets.{pages_where-agrees}
@@ -111,17 +113,12 @@ slot-edited-own t now page k f old is h own at there q = slot-edited t now page 
     never true x y = refl
     never false x y = refl
 
-get_or-replicate : {A : Type 0} (n i : ℕ) (x : A) → get_or (replicate n x) i x ≡ x
-get_or-replicate zero i x = refl
-get_or-replicate (suc n) zero x = refl
-get_or-replicate (suc n) (suc i) x = get_or-replicate n i x
-
 -- a table of empty slots
 pub slot-none : (number pages count page : ℕ) → slot_of (record { number = number; pages = pages; slots = replicate count empty_slot }) page ≡ empty_slot
 slot-none number pages count page =
     let t : Table = record { number = number; pages = pages; slots = replicate count empty_slot } in
     elim (cases_Bool (is_own t page)) [
-      | inl mine ↦ at_own t page mine ∙ get_or-replicate count (place_of page) empty_slot
+      | inl mine ↦ at_own t page mine ∙ at_replicate (λ (s : Slot). s ≡ empty_slot) count empty_slot empty_slot (place_of page) refl refl
       | inr off ↦ at_other t page off
     ]
 
@@ -222,16 +219,13 @@ dirty-all t h = pages_where-agrees _ _ (λ p low high. elim (cases_Bool (is_own 
   | inr off ↦ outside t p h low off ∙ sym (ap (λ (k : Slot). k.dirty) (at_other t p off))
 ])
   where
-    and-all : (a b c : Bool) → a ≡ true → b ≡ true → c ≡ true → (a && (b && c)) ≡ true
-    and-all a b c p q r = rw (p, q, r) refl
-
     beyond : (t : Table) (p : ℕ) → IsTable t → 16 ≤ p → eqb (stripe_of p) t.number ≡ true → stripe_of p ≡ t.number → is_own t p ≡ false → length t.slots ≤ place_of p
     beyond t p h low m is off =
         let count = h.count in
         let small = h.small in
         let many = h.low in
         elim (cases_Bool (ltb p (16 + t.pages))) [
-          | inl t' ↦ absurd (false≢true (sym off ∙ and-all (leb 16 p) (ltb p (16 + t.pages)) (eqb (stripe_of p) t.number) (le-leb 16 p low) t' m))
+          | inl t' ↦ absurd (false≢true (sym off ∙ and_three (leb 16 p) (ltb p (16 + t.pages)) (eqb (stripe_of p) t.number) (le-leb 16 p low) t' m))
           | inr f ↦ (let above = ltb-false p (16 + t.pages) f in omega arith)
         ]
 

@@ -2,7 +2,9 @@
 use Rattle.std.proofs.Common.{◌≡◌, ℕ, suc, zero, ◌+◌, ◌<◌, min, Bool, true, false, eqb, ◌||◌, ◌&&◌, List, [], ◌∷◌, length, get_or, take, eq-eqb, add-one, refl, sym, ap, subst, ◌∙◌, inl, inr, arith, ◌⊎◌}
 use Rattle.std.specs.Prelude.{Option, Some, None}
 use Rattle.std.specs.List.{list_any}
-use Rattle.std.proofs.lemmas.Bool.{cases_Bool, or_cases, or_parts, eqb-true, false≢true}
+use Rattle.std.proofs.lemmas.Bool.{cases_Bool, or_cases, or_parts, eqb-true, false≢true, or_right, or_left}
+use Rattle.std.proofs.Math.Bool.{and-false}
+use Rattle.std.proofs.lemmas.List.Folds.{list_any_more, list_any_at}
 use Rattle.ag_stripe.specs.declared.fault.StripeFault.{StripeFault}
 use Rattle.ag_stripe.specs.declared.fault.StripeFault.TheVariants.{Bad, Pending, TooOld, Home, Unlawful, NoMemory}
 use Rattle.ag_stripe.specs.Tables.{Table, IsSameTable, is_own, slot_of}
@@ -45,25 +47,17 @@ visits-then told a b c x y z p q h k = record {
   lower = λ n e. k.lower n (h.lower n e);
   from = λ n e. elim (k.from n e) [
     | inl mid ↦ first n (h.from n mid)
-    | inr f ↦ inr (sym (own-same a b h.reads.same n) ∙ f.0, or-second (p n) (q n) f.1, says-then (known told a n) (known told b n) NotSound (h.reads.known n) f.2)
+    | inr f ↦ inr (sym (own-same a b h.reads.same n) ∙ f.0, or_right (p n) (q n) f.1, says-then (known told a n) (known told b n) NotSound (h.reads.known n) f.2)
   ];
 }
   where
-    or-second : (u v : Bool) → v ≡ true → (u || v) ≡ true
-    or-second true v e = refl
-    or-second false v e = e
-
-    or-first : (u v : Bool) → u ≡ true → (u || v) ≡ true
-    or-first true v e = refl
-    or-first false v e = absurd (false≢true e)
-
     earlier : (n : ℕ) → (IsKept b n ⊎ IsAtMost y n) → IsKept c n ⊎ IsAtMost z n
     earlier n (inl kept) = inl (kept.0, k.reads.kept n kept.0 kept.1)
     earlier n (inr low) = inr (k.lower n low)
 
     first : (n : ℕ) → ((x ≡ Some n) ⊎ ((is_own a n ≡ true) × (p n ≡ true) × Says (known told a n) NotSound)) → (x ≡ Some n) ⊎ ((is_own a n ≡ true) × ((p n || q n) ≡ true) × Says (known told a n) NotSound)
     first n (inl e) = inl e
-    first n (inr f) = inr (f.0, or-first (p n) (q n) f.1, f.2)
+    first n (inr f) = inr (f.0, or_left (p n) (q n) f.1, f.2)
 
 -- ---- one page
 
@@ -140,50 +134,18 @@ visit_fault-then told a b p q (Bad page) reads more h = h
 visit_fault-then told a b p q (Pending page) reads more h = h
 visit_fault-then told a b p q (TooOld s o) reads more h = h
 
--- ---- lists
-
-pub any-more : {A : Type 0} (f : A → Bool) (xs : List A) (i : ℕ) (d : A) → i < length xs → list_any f (take (i + 1) xs) ≡ (list_any f (take i xs) || f (get_or xs i d))
-any-more {A = A} f xs i d lt = ap (λ (k : ℕ). list_any f (take k xs)) (add-one i) ∙ go xs i lt
-  where
-    go : (xs : List A) (i : ℕ) → i < length xs → list_any f (take (suc i) xs) ≡ (list_any f (take i xs) || f (get_or xs i d))
-    go [] i lt = absurd (omega arith)
-    go (x ∷ xs) zero lt = first (f x)
-      where
-        first : (b : Bool) → (b || false) ≡ (false || b)
-        first true = refl
-        first false = refl
-    go (x ∷ xs) (suc i) lt = ap (λ (b : Bool). f x || b) (go xs i (omega arith)) ∙ assoc (f x) (list_any f (take i xs)) (f (get_or xs i d))
-      where
-        assoc : (a b c : Bool) → (a || (b || c)) ≡ ((a || b) || c)
-        assoc true b c = refl
-        assoc false b c = refl
-
--- one of a list's front is one of the list
-pub any-front : {A : Type 0} (f : A → Bool) (xs : List A) (i : ℕ) (d : A) → i < length xs → f (get_or xs i d) ≡ true → list_any f xs ≡ true
-any-front f [] i d lt e = absurd (omega arith)
-any-front f (x ∷ xs) zero d lt e = rw e refl
-any-front f (x ∷ xs) (suc i) d lt e = later (f x) (list_any f xs) (any-front f xs i d (omega arith) e)
-  where
-    later : (a b : Bool) → b ≡ true → (a || b) ≡ true
-    later true b e = refl
-    later false b e = e
-
 -- ---- homes
 
 -- a home still has the pages
 pub has_pages : {H : Type 0} (has_page : H → ℕ → Bool) (t u : Table) (a b : H) → IsSameTable t u → has_page b ≡ has_page a → HasPages has_page t a → HasPages has_page u b
 has_pages has_page t u a b same pages h q own = ap (λ (f : ℕ → Bool). f q) pages ∙ h q (sym (own-same t u same q) ∙ own)
 
-and-false : (b : Bool) → (b && false) ≡ false
-and-false true = refl
-and-false false = refl
-
 -- one record more
 pub touched-more : (start old : Table) (records : List Record) (r : Record) (i x : ℕ) → IsSameTable start old → i < length records → r ≡ get_or records i r → is_own start x ≡ true
     → (is_touched start (take i records) x || touches old.pages x r) ≡ is_touched start (take (i + 1) records) x
 touched-more start old records r i x same lt there own =
     (λ j. (own j && list_any (touches start.pages x) (take i records)) || touches (same.pages j) x (there j))
-    ∙ sym (any-more (touches start.pages x) records i r lt)
+    ∙ sym (list_any_more (touches start.pages x) records i r lt)
     ∙ (λ j. sym own j && list_any (touches start.pages x) (take (i + 1) records))
 
 -- no record
@@ -193,4 +155,4 @@ touched-none t x = sym (and-false (is_own t x))
 -- what a record of a block touches, the block touches
 pub touched-one : (start old : Table) (records : List Record) (r : Record) (i x : ℕ) → IsSameTable start old → i < length records → r ≡ get_or records i r → is_own start x ≡ true → touches old.pages x r ≡ true → is_touched start records x ≡ true
 touched-one start old records r i x same lt there own on =
-    (λ j. own j && list_any (touches start.pages x) records) ∙ any-front (touches start.pages x) records i r lt ((λ j. touches (sym same.pages j) x (sym there j)) ∙ on)
+    (λ j. own j && list_any (touches start.pages x) records) ∙ list_any_at (touches start.pages x) records i r lt ((λ j. touches (sym same.pages j) x (sym there j)) ∙ on)

@@ -13,7 +13,7 @@ ghost use Rattle.ag_stripe.specs.Answers.{IsRow, IsOldAt, IsRowFault, IsImageOf,
 use crate::fault::StripeFault;
 use crate::reading::read_in;
 use crate::stripe::Stripe;
-use crate::visiting::page_of;
+use ag_model::page::page_of;
 use ag_model::value::{PageValue, Row, VersionList};
 use ag_page::{Image, PageHome, fits, to_image};
 use ag_version::row_at;

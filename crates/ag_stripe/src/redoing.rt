@@ -9,7 +9,7 @@ ghost use Rattle.ag_stripe.specs.Redo.{redone_slot, is_touched, OnlyEdits, IsRef
 
 use crate::fault::StripeFault;
 use crate::table::PageTable;
-use crate::visiting::page_of;
+use ag_model::page::page_of;
 use ag_model::record::Record;
 
 /// Redoes the record at this LSN on each of the pages that it lists.

@@ -10,18 +10,10 @@ ghost use Rattle.ag_stripe.specs.Visits.{lesser, Visits, IsVisitFault};
 use crate::fault::StripeFault;
 use crate::reading::read_in;
 use crate::table::PageTable;
+use ag_model::page::page_of;
 use ag_model::record::Record;
 use ag_page::PageHome;
 use std::alloc::Global;
-
-/// The page of a key, where there are so many data pages.
-pub(crate) fn page_of(pages: u16, key: u32) -> u16
-    requires low { 16 ≤ pages }
-    requires high { pages ≤ 2048 }
-    ensures { result ≡ page_of pages key }
-{
-    16 + (key % u32::from(pages)) as u16
-}
 
 /// The lesser of the page that was found and one more.
 fn lesser(found: Option<u16>, page: u16) -> Option<u16>

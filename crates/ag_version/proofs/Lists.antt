@@ -4,22 +4,7 @@ use Rattle.std.specs.List.{AllByRecursion, filter, flat_map, list_any, enumerate
 use Rattle.std.proofs.lemmas.Bool.{cases_Bool}
 use Rattle.std.proofs.lemmas.List.{map-append}
 use Rattle.std.proofs.lemmas.List.Elements.{filter-append}
-
-pub each_weaker : {X : Type 0} (P Q : X → Type 0) → ((x : X) → P x → Q x) → (xs : List X) → AllByRecursion P xs → AllByRecursion Q xs
-each_weaker P Q f [] h = tt
-each_weaker P Q f (x ∷ xs) h = (f x h.0, each_weaker P Q f xs h.1)
-
-pub each_append : {X : Type 0} (P : X → Type 0) (xs ys : List X) → AllByRecursion P xs → AllByRecursion P ys → AllByRecursion P (xs ++ ys)
-each_append P [] ys h k = k
-each_append P (x ∷ xs) ys h k = (h.0, each_append P xs ys h.1 k)
-
-pub each_flat_map : {X Y : Type 0} (P : Y → Type 0) (g : X → List Y) → (xs : List X) → AllByRecursion (λ x. AllByRecursion P (g x)) xs → AllByRecursion P (flat_map g xs)
-each_flat_map P g [] h = tt
-each_flat_map P g (x ∷ xs) h = each_append P (g x) (flat_map g xs) h.0 (each_flat_map P g xs h.1)
-
-pub each_always : {X : Type 0} (P : X → Type 0) → ((x : X) → P x) → (xs : List X) → AllByRecursion P xs
-each_always P f [] = tt
-each_always P f (x ∷ xs) = (f x, each_always P f xs)
+use Rattle.ag_lists.proofs.Each.{all_append}
 
 pub flat_map-agree : {X Y : Type 0} (f g : X → List Y) → ((x : X) → f x ≡ g x) → (xs : List X) → flat_map f xs ≡ flat_map g xs
 flat_map-agree f g e [] = refl

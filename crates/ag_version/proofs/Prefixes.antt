@@ -6,6 +6,7 @@ use Rattle.std.proofs.lemmas.List.{length-take, length-drop, get_or-take, get_or
 use Rattle.std.proofs.lemmas.List.FromFn.{get_or-enumerate_from, length-enumerate_from}
 use Rattle.std.proofs.lemmas.List.Elements.{All-from_recursion, recursion_from_All}
 use Rattle.std.proofs.lemmas.List.Folds.{list_any_at, list_any_none}
+use Rattle.ag_lists.proofs.Each.{all_flat_map}
 use Rattle.ag_model.specs.declared.record.Record.{Record}
 use Rattle.ag_model.specs.declared.record.Record.TheVariants.{Put, Del, Commit, Abort, Trim, Term}
 use Rattle.ag_model.specs.Rows.{contains}
@@ -13,7 +14,6 @@ use Rattle.ag_model.specs.Page.{numbered, horizon_by, horizons}
 use Rattle.ag_model.specs.Proper.{IsRecordOf}
 use Rattle.ag_model.specs.Txns.{txn_of, is_end_of}
 use Rattle.ag_version.specs.Steps.{AreProper, IsAt}
-use Rattle.ag_version.proofs.Lists.{each_flat_map}
 use Rattle.ag_version.proofs.Endings.{IsOpen}
 
 -- the record of an LSN, by its place
@@ -43,7 +43,7 @@ pub length-before : (log : List Record) (n : ℕ) (r : Record) → IsAt log n r 
 length-before log n r h = let one = h.0 in omega (arith, get-lt log (n - 1) r h.1, length-take (n - 1) log)
 
 -- each record of a proper log, by its place
-record-at : (pages : ℕ) (log : List Record) → AreProper pages log → (i : ℕ) (d : Record) → i < length log → IsRecordOf pages log (i + 1) (get_or log i d)
+pub record-at : (pages : ℕ) (log : List Record) → AreProper pages log → (i : ℕ) (d : Record) → i < length log → IsRecordOf pages log (i + 1) (get_or log i d)
 record-at pages log proper i d lt =
     let each = All-from_recursion (λ r. IsRecordOf pages log r.0 r.1) (numbered log) proper in
     let here = each i (0, d) (omega (arith, length-enumerate_from 1 log)) in
@@ -91,7 +91,7 @@ below-own pages page log lsn n (Term term) h le = tt
 -- the horizons before a record are below its LSN
 pub horizons-below : (pages page : ℕ) (log : List Record) (n : ℕ) → AreProper pages log → n - 1 ≤ length log → AllByRecursion (λ h. h < n) (horizons page (take (n - 1) log))
 horizons-below pages page log n proper le =
-    each_flat_map (λ h. h < n) (horizon_by page) (take (n - 1) log)
+    all_flat_map (λ h. h < n) (horizon_by page) (take (n - 1) log)
     (recursion_from_All (λ x. AllByRecursion (λ h. h < n) (horizon_by page x)) (take (n - 1) log) (λ k d below.
     let small : k < n - 1 = omega (arith, length-take (n - 1) log) in
     let same : get_or log k d ≡ get_or (take (n - 1) log) k d = sym (get_or-take (n - 1) log k d small) in

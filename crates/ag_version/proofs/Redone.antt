@@ -5,6 +5,7 @@ use Rattle.std.proofs.lemmas.Bool.{eq-eqb}
 use Rattle.std.proofs.lemmas.List.{append-nil, length-take}
 use Rattle.std.proofs.lemmas.List.Concat.{flat_map-append}
 use Rattle.std.proofs.lemmas.List.Sums.{fold_push}
+use Rattle.ag_lists.proofs.Each.{all_map}
 use Rattle.ag_model.specs.declared.value.Change.{Change}
 use Rattle.ag_model.specs.declared.value.Change.TheVariants.{Put as PutChange, Del as DelChange}
 use Rattle.ag_model.specs.declared.value.Version.{Version}
@@ -16,7 +17,6 @@ use Rattle.ag_model.specs.Page.{numbered, commit_of, horizon_by, horizons, last_
 use Rattle.ag_model.specs.Txns.{txn_of}
 use Rattle.ag_version.specs.Edits.{new_version, stamped, without_txn, after_change, after_commit, after_abort, after_trim, left_by_trim}
 use Rattle.ag_version.specs.Steps.{record_of, IsDue}
-use Rattle.ag_version.proofs.Lists.{each_weaker}
 use Rattle.ag_version.proofs.Endings.{IsOpen, commit_of-open, numbered_push}
 use Rattle.ag_version.proofs.Versions.{IsCommitted, versions-committed, versions_neutral, versions_change, versions_commit, versions_abort}
 use Rattle.ag_version.proofs.Untrimmed.{AreBelow, HaveOpen, untrimmed_push, untrimmed_stamped, untrimmed_without, untrimmed_trim}
@@ -52,7 +52,7 @@ horizons-same page log r e = horizons_push page log r ∙ ap (λ (z : List ℕ).
 
 pub have-open : (pages page t : ℕ) (log : List Record) → IsOpen t log → HaveOpen t (all_versions pages page log)
 have-open pages page t log free =
-    each_weaker (IsCommitted log) (λ v. v.txn ≡ t → v.commit ≡ 0) (λ v is own. is ∙ ap (λ (u : ℕ). commit_of u (numbered log)) own ∙ commit_of-open t log free) (all_versions pages page log) (versions-committed pages page log)
+    all_map (IsCommitted log) (λ v. v.txn ≡ t → v.commit ≡ 0) (λ v is own. is ∙ ap (λ (u : ℕ). commit_of u (numbered log)) own ∙ commit_of-open t log free) (all_versions pages page log) (versions-committed pages page log)
 
 -- ---- one record more, at the end of a log
 

@@ -7,6 +7,7 @@ use Rattle.std.proofs.lemmas.List.FromFn.{length-range_with_len, get_or-range_wi
 use Rattle.std.proofs.lemmas.List.{append-nil}
 use Rattle.std.proofs.lemmas.List.Folds.{list_any_at}
 use Rattle.std.proofs.lemmas.Map.Views.{any-filter_same}
+use Rattle.ag_lists.proofs.Each.{all_map, all_flat_map}
 use Rattle.ag_model.specs.declared.value.Change.{Change}
 use Rattle.ag_model.specs.declared.value.Change.TheVariants.{Put as PutChange, Del as DelChange}
 use Rattle.ag_model.specs.declared.value.Version.{Version}
@@ -17,7 +18,6 @@ use Rattle.ag_model.specs.Page.{numbered, is_abort_of, commit_of, version_of, ve
 use Rattle.ag_model.specs.Txns.{is_change_of, pages_of}
 use Rattle.ag_version.specs.Edits.{stamped, without_txn}
 use Rattle.ag_version.specs.Steps.{AreProper, IsAt}
-use Rattle.ag_version.proofs.Lists.{each_flat_map, each_weaker}
 use Rattle.ag_version.proofs.Versions.{versions_neutral, versions_commit, versions_abort}
 use Rattle.ag_version.proofs.Prefixes.{take-at, open-before, record-here}
 use Rattle.ag_version.proofs.Redone.{value_at_end, value-is, touch_push, horizons_push, parts}
@@ -66,8 +66,8 @@ each_number p k (r ∷ log) e = (let h = or_parts (p r) (list_any p log) e in (h
 
 others : (pages page t : ℕ) (log : List Record) → list_any (λ r. is_change_of t r && touches pages page r) log ≡ false → AreOthers t (all_versions pages page log)
 others pages page t log e =
-    each_flat_map (λ v. eqb v.txn t ≡ false) (version_by pages page log) (numbered log)
-    (each_weaker (λ (x : ℕ × Record). (is_change_of t x.1 && touches pages page x.1) ≡ false) (λ x. AreOthers t (version_by pages page log x)) (λ x h. others-here pages page t log x.0 x.1 h) (numbered log) (each_number (λ r. is_change_of t r && touches pages page r) 1 log e))
+    all_flat_map (λ v. eqb v.txn t ≡ false) (version_by pages page log) (numbered log)
+    (all_map (λ (x : ℕ × Record). (is_change_of t x.1 && touches pages page x.1) ≡ false) (λ x. AreOthers t (version_by pages page log x)) (λ x h. others-here pages page t log x.0 x.1 h) (numbered log) (each_number (λ r. is_change_of t r && touches pages page r) 1 log e))
 
 others-stamped : (n t : ℕ) (vs : List Version) → AreOthers t vs → map (stamped n t) vs ≡ vs
 others-stamped n t [] h = refl

@@ -5,11 +5,14 @@ use Rattle.std.proofs.lemmas.Bool.{and_parts, and_from, or_cases, or_left, or_ri
 use Rattle.std.proofs.lemmas.Bool.Decides.{nat_tests}
 use Rattle.std.proofs.lemmas.List.Elements.{filter-append, recursion_from_All}
 use Rattle.std.proofs.lemmas.List.Folds.{list_any-append, list_any_at}
+use Rattle.std.proofs.Math.Bool.{and-false}
+use Rattle.ag_lists.proofs.Filters.{all_passed}
+use Rattle.ag_lists.proofs.Each.{all_map, all_always}
 use Rattle.ag_model.specs.declared.value.Version.{Version}
 use Rattle.ag_model.specs.Page.{is_before, is_committed_at, is_del, is_trimmed_at, untrimmed}
 use Rattle.ag_version.specs.Edits.{stamped, without_txn, left_by_trim}
 use Rattle.ag_version.specs.Trimming.{follows, is_followed}
-use Rattle.ag_version.proofs.Lists.{each_weaker, each_always, filter-agree, filter-map_agree, filter-comm, any-agree, any-map_agree, any-filter_agree, any-never}
+use Rattle.ag_version.proofs.Lists.{filter-agree, filter-map_agree, filter-comm, any-agree, any-map_agree, any-filter_agree, any-never}
 use Rattle.ag_version.proofs.Following.{is_followed-trans, follows-open, follows-late, follows-from_late, is_followed-none}
 use Rattle.ag_version.proofs.Removing.{filter_both}
 
@@ -30,7 +33,7 @@ trimmed-is : (h : ℕ) (xs ys : List Version) (v : Version) → is_followed h xs
 trimmed-is h xs ys v e = ap (λ (b : Bool). not (eqb v.commit 0) && (b || (is_del v.change && is_committed_at h v))) e
 
 gone-is : (hs : List ℕ) (xs ys : List Version) (v : Version) → ((h : ℕ) → is_followed h xs v ≡ is_followed h ys v) → is_gone hs xs v ≡ is_gone hs ys v
-gone-is hs xs ys v e = any-agree (is_trimmed_at xs v) (is_trimmed_at ys v) hs (each_always (λ h. is_trimmed_at xs v h ≡ is_trimmed_at ys v h) (λ h. trimmed-is h xs ys v (e h)) hs)
+gone-is hs xs ys v e = any-agree (is_trimmed_at xs v) (is_trimmed_at ys v) hs (all_always (λ h. is_trimmed_at xs v h ≡ is_trimmed_at ys v h) (λ h. trimmed-is h xs ys v (e h)) hs)
 
 open-trimmed : (h : ℕ) (all : List Version) (v : Version) → v.commit ≡ 0 → is_trimmed_at all v h ≡ false
 open-trimmed h all v e = rw e refl
@@ -47,7 +50,7 @@ untrimmed_push hs all w fresh =
     let same : (v : Version) → is_gone hs more v ≡ is_gone hs all v = λ v. gone-is hs more all v (λ h. list_any-append (follows h v) all (w ∷ []) ∙ or-false-same (is_followed h all v) (follows h v w) (follows-open h v w fresh)) in
     let stays : is_gone hs more w ≡ false = any-never (is_trimmed_at more w) (λ h. open-trimmed h more w fresh) hs in
     filter-append (λ v. not (is_gone hs more v)) all (w ∷ [])
-    ∙ ap (λ (z : List Version). z ++ filter (λ v. not (is_gone hs more v)) (w ∷ [])) (filter-agree (λ v. not (is_gone hs more v)) (λ v. not (is_gone hs all v)) all (each_always (λ v. not (is_gone hs more v) ≡ not (is_gone hs all v)) (λ v. ap not (same v)) all))
+    ∙ ap (λ (z : List Version). z ++ filter (λ v. not (is_gone hs more v)) (w ∷ [])) (filter-agree (λ v. not (is_gone hs more v)) (λ v. not (is_gone hs all v)) all (all_always (λ v. not (is_gone hs more v) ≡ not (is_gone hs all v)) (λ v. ap not (same v)) all))
     ∙ ap (λ (b : Bool). untrimmed hs all ++ cond (not b) (w ∷ []) []) stays
 
 -- ---- stamped versions
@@ -78,16 +81,13 @@ trimmed-stamped n t h all v free fresh below = elim (cases_Bool (eqb v.txn t)) [
       let is : w.commit ≡ n = stamped-commit n t v own in
       let late : h < w.commit = rw is below in
       let none : is_followed h more w ≡ false = is_followed-none h w more (λ u. follows-from_late h w u late) in
-      let after : is_committed_at h w ≡ false = (let z : leb w.commit h ≡ false = lt-leb w.commit h late in rw z (and-right-false (not (eqb w.commit 0)))) in
+      let after : is_committed_at h w ≡ false = (let z : leb w.commit h ≡ false = lt-leb w.commit h late in rw z (and-false (not (eqb w.commit 0)))) in
       late-trimmed h more w none after ∙ sym (open-trimmed h all v (fresh (eqb-true v.txn t own)))
   | inr other ↦
       ap (λ (z : Version). is_trimmed_at (map (stamped n t) all) z h) (stamped-other n t v other)
-      ∙ trimmed-is h (map (stamped n t) all) all v (any-map_agree (follows h v) (follows h v) (stamped n t) all (each_weaker (λ w. w.txn ≡ t → w.commit ≡ 0) (λ w. follows h v (stamped n t w) ≡ follows h v w) (λ w f. follows-stamped_other n t h v w below f) all free))
+      ∙ trimmed-is h (map (stamped n t) all) all v (any-map_agree (follows h v) (follows h v) (stamped n t) all (all_map (λ w. w.txn ≡ t → w.commit ≡ 0) (λ w. follows h v (stamped n t w) ≡ follows h v w) (λ w f. follows-stamped_other n t h v w below f) all free))
 ]
   where
-    and-right-false : (a : Bool) → (a && false) ≡ false
-    and-right-false true = refl
-    and-right-false false = refl
 
     never : (a b : Bool) → (a && (b && false)) ≡ false
     never true true = refl
@@ -101,8 +101,8 @@ pub untrimmed_stamped : (n t : ℕ) (hs : List ℕ) (all : List Version) → Hav
 untrimmed_stamped n t hs all free below =
     let more = map (stamped n t) all in
     filter-map_agree (λ v. not (is_gone hs all v)) (λ v. not (is_gone hs more v)) (stamped n t) all
-    (each_weaker (λ v. v.txn ≡ t → v.commit ≡ 0) (λ v. not (is_gone hs more (stamped n t v)) ≡ not (is_gone hs all v))
-    (λ v f. ap not (any-agree (is_trimmed_at more (stamped n t v)) (is_trimmed_at all v) hs (each_weaker (λ h. h < n) (λ h. is_trimmed_at more (stamped n t v) h ≡ is_trimmed_at all v h) (λ h lt. trimmed-stamped n t h all v free f lt) hs below)))
+    (all_map (λ v. v.txn ≡ t → v.commit ≡ 0) (λ v. not (is_gone hs more (stamped n t v)) ≡ not (is_gone hs all v))
+    (λ v f. ap not (any-agree (is_trimmed_at more (stamped n t v)) (is_trimmed_at all v) hs (all_map (λ h. h < n) (λ h. is_trimmed_at more (stamped n t v) h ≡ is_trimmed_at all v h) (λ h lt. trimmed-stamped n t h all v free f lt) hs below)))
     all free)
 
 -- ---- versions of other transactions
@@ -112,17 +112,17 @@ untrimmed_without t hs all free =
     let keep : Version → Bool = λ w. not (eqb w.txn t) in
     let rest = without_txn t all in
     let same : (v : Version) → is_gone hs rest v ≡ is_gone hs all v = λ v. gone-is hs rest all v (λ h. any-filter_agree (follows h v) keep all
-    (each_weaker (λ w. w.txn ≡ t → w.commit ≡ 0) (λ w. keep w ≡ false → follows h v w ≡ false) (λ w f e. follows-open h v w (f (eqb-true w.txn t (not-false (eqb w.txn t) e)))) all free)) in
-    filter-agree (λ v. not (is_gone hs rest v)) (λ v. not (is_gone hs all v)) rest (each_always (λ v. not (is_gone hs rest v) ≡ not (is_gone hs all v)) (λ v. ap not (same v)) rest)
+    (all_map (λ w. w.txn ≡ t → w.commit ≡ 0) (λ w. keep w ≡ false → follows h v w ≡ false) (λ w f e. follows-open h v w (f (eqb-true w.txn t (not-false (eqb w.txn t) e)))) all free)) in
+    filter-agree (λ v. not (is_gone hs rest v)) (λ v. not (is_gone hs all v)) rest (all_always (λ v. not (is_gone hs rest v) ≡ not (is_gone hs all v)) (λ v. ap not (same v)) rest)
     ∙ filter-comm (λ v. not (is_gone hs all v)) keep all
 
 -- ---- a Trim
 
 -- each version of a list is one of it
-abbrev IsOneOf : List Version → Version → Type 0
+abbrev pub IsOneOf : List Version → Version → Type 0
 IsOneOf all w = (p : Version → Bool) → p w ≡ true → list_any p all ≡ true
 
-each_one : (all : List Version) → AllByRecursion (IsOneOf all) all
+pub each_one : (all : List Version) → AllByRecursion (IsOneOf all) all
 each_one all = recursion_from_All (IsOneOf all) all (λ k d lt p e. list_any_at p all k d lt e)
 
 -- what a Trim leaves out that follows a version: then the Trim leaves out this one too
@@ -153,15 +153,7 @@ gone-before h (k ∷ hs) all v w one f e = elim (or_cases (is_trimmed_at all w k
 followed-left : (h : ℕ) (hs : List ℕ) (all : List Version) (v : Version) → is_gone hs all v ≡ false → is_followed h (untrimmed hs all) v ≡ is_followed h all v
 followed-left h hs all v stays =
     any-filter_agree (follows h v) (λ w. not (is_gone hs all w)) all
-    (each_weaker (IsOneOf all) (λ w. not (is_gone hs all w) ≡ false → follows h v w ≡ false) (λ w one gone. false_from_ne_true (follows h v w) (λ f. false≢true (sym stays ∙ gone-before h hs all v w one f (not-false (is_gone hs all w) gone)))) all (each_one all))
-
-each_filter : (p : Version → Bool) (xs : List Version) → AllByRecursion (λ v. p v ≡ true) (filter p xs)
-each_filter p [] = tt
-each_filter p (x ∷ xs) = each_cond (p x) x xs p refl (each_filter p xs)
-  where
-    each_cond : (b : Bool) (x : Version) (xs : List Version) (p : Version → Bool) → p x ≡ b → AllByRecursion (λ v. p v ≡ true) (filter p xs) → AllByRecursion (λ v. p v ≡ true) (cond b (x ∷ filter p xs) (filter p xs))
-    each_cond true x xs p e h = (e, h)
-    each_cond false x xs p e h = h
+    (all_map (IsOneOf all) (λ w. not (is_gone hs all w) ≡ false → follows h v w ≡ false) (λ w one gone. false_from_ne_true (follows h v w) (λ f. false≢true (sym stays ∙ gone-before h hs all v w one f (not-false (is_gone hs all w) gone)))) all (each_one all))
 
 -- one horizon more leaves what a Trim leaves of what was left
 pub untrimmed_trim : (hs : List ℕ) (h : ℕ) (all : List Version) → untrimmed (hs ++ h ∷ []) all ≡ left_by_trim h (untrimmed hs all)
@@ -170,7 +162,7 @@ untrimmed_trim hs h all =
     let more : (v : Version) → not (is_gone (hs ++ h ∷ []) all v) ≡ (not (is_gone hs all v) && not (is_trimmed_at all v h)) = λ v. ap not (list_any-append (is_trimmed_at all v) hs (h ∷ [])) ∙ not-or (is_gone hs all v) (is_trimmed_at all v h) in
     let left : filter (λ v. not (is_trimmed_at rest v h)) rest ≡ filter (λ v. not (is_trimmed_at all v h)) rest =
     filter-agree (λ v. not (is_trimmed_at rest v h)) (λ v. not (is_trimmed_at all v h)) rest
-    (each_weaker (λ v. not (is_gone hs all v) ≡ true) (λ v. not (is_trimmed_at rest v h) ≡ not (is_trimmed_at all v h)) (λ v e. ap not (trimmed-is h rest all v (followed-left h hs all v (not-true (is_gone hs all v) e)))) rest (each_filter (λ v. not (is_gone hs all v)) all)) in
+    (all_map (λ v. not (is_gone hs all v) ≡ true) (λ v. not (is_trimmed_at rest v h) ≡ not (is_trimmed_at all v h)) (λ v e. ap not (trimmed-is h rest all v (followed-left h hs all v (not-true (is_gone hs all v) e)))) rest (all_passed (λ v. not (is_gone hs all v)) all)) in
     sym (filter_both (λ v. not (is_gone hs all v)) (λ v. not (is_trimmed_at all v h)) (λ v. not (is_gone (hs ++ h ∷ []) all v)) more all) ∙ sym left
   where
     not-or : (a b : Bool) → not (a || (b || false)) ≡ (not a && not b)

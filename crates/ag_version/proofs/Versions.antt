@@ -5,6 +5,8 @@ use Rattle.std.proofs.lemmas.Bool.{eqb-true}
 use Rattle.std.proofs.lemmas.Bool.Decides.{nat_tests}
 use Rattle.std.proofs.lemmas.List.{append-nil}
 use Rattle.std.proofs.lemmas.List.Concat.{flat_map-append}
+use Rattle.std.proofs.Math.Bool.{or-false}
+use Rattle.ag_lists.proofs.Each.{all_flat_map, all_always}
 use Rattle.ag_model.specs.declared.value.Change.{Change}
 use Rattle.ag_model.specs.declared.value.Change.TheVariants.{Put as PutChange, Del as DelChange}
 use Rattle.ag_model.specs.declared.value.Version.{Version}
@@ -14,7 +16,7 @@ use Rattle.ag_model.specs.Rows.{page_of, touches}
 use Rattle.ag_model.specs.Page.{numbered, commit_here, commit_of, is_abort_of, version_of, version_here, version_by, all_versions}
 use Rattle.ag_version.specs.Edits.{new_version, stamped, without_txn}
 use Rattle.ag_version.specs.Steps.{record_of}
-use Rattle.ag_version.proofs.Lists.{flat_map-agree, flat_map-of_map, flat_map-of_filter, each_flat_map, each_always}
+use Rattle.ag_version.proofs.Lists.{flat_map-agree, flat_map-of_map, flat_map-of_filter}
 use Rattle.ag_version.proofs.Endings.{IsOpen, commit_of-open, aborted-open, numbered_push, commit_of_push, commit_of_commit, aborted_push}
 
 -- what a version of a transaction is, by the Aborts and the Commit of a log
@@ -38,10 +40,6 @@ by_record f none log more e pages page x = by_kind f none log more e pages page 
     by_kind f none log more e pages page lsn (Abort txn listed) = sym none
     by_kind f none log more e pages page lsn (Trim trimmed horizon) = sym none
     by_kind f none log more e pages page lsn (Term term) = sym none
-
-or-false : (b : Bool) → b || false ≡ b
-or-false true = refl
-or-false false = refl
 
 -- ---- a record that ends no transaction
 
@@ -141,7 +139,7 @@ made-committed log true lsn txn key change = tt
 made-committed log false lsn txn key change = (refl, tt)
 
 pub versions-committed : (pages page : ℕ) (log : List Record) → AllByRecursion (IsCommitted log) (all_versions pages page log)
-versions-committed pages page log = each_flat_map (IsCommitted log) (version_by pages page log) (numbered log) (each_always (λ x. AllByRecursion (IsCommitted log) (version_by pages page log x)) (λ x. by_kind log pages page x.0 x.1) (numbered log))
+versions-committed pages page log = all_flat_map (IsCommitted log) (version_by pages page log) (numbered log) (all_always (λ x. AllByRecursion (IsCommitted log) (version_by pages page log x)) (λ x. by_kind log pages page x.0 x.1) (numbered log))
   where
     by_page : (log : List Record) (b : Bool) (xs : List Version) → AllByRecursion (IsCommitted log) xs → AllByRecursion (IsCommitted log) (cond b xs [])
     by_page log true xs h = h

@@ -1,6 +1,6 @@
 use Rattle.std.proofs.Common.{◌≡◌, ◌+◌, ◌-◌, sym, arith}
 use Rattle.std.proofs.lemmas.List.{drop-take}
-use Rattle.ag_front.proofs.Copies.{clone_same}
+use Rattle.ag_ends.proofs.Records.{clone_same}
 use Rattle.ag_front.proofs.history.copy_records.Goals as goal
 
 pub returns : goal.returns

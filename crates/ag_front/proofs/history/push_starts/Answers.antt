@@ -1,6 +1,6 @@
 use Rattle.std.proofs.Common.{◌≡◌, ◌+◌, ◌++◌, arith}
 use Rattle.ag_model.specs.Starts.{start_by}
-use Rattle.ag_front.proofs.Starts.{starts_step}
+use Rattle.ag_ends.proofs.Starts.{starts_step}
 use Rattle.ag_front.proofs.history.push_starts.Goals as goal
 
 pub loop-record-preserved : goal.loop-record-preserved

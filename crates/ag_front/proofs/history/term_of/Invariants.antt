@@ -1,5 +1,5 @@
 use Rattle.std.proofs.Common.{◌≡◌, take}
-use Rattle.ag_front.specs.Starts.{term_by}
+use Rattle.ag_ends.specs.Starts.{term_by}
 use Rattle.ag_front.proofs.history.term_of.Given as goal
 
 abbrev pub invariant-loop-i : goal.invariant-loop-i

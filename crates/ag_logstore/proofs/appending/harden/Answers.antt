@@ -3,6 +3,7 @@ use Rattle.std.specs.Prelude.{Contains}
 use Rattle.ag_model.specs.declared.record.Record.{Record}
 use Rattle.ag_model.specs.declared.record.Log.{Log}
 use Rattle.ag_model.specs.Blocks.{with_block, cut_at}
+use Rattle.ag_lists.proofs.Results.{err_is}
 use Rattle.ag_record.specs.Spelling.{records_spelling}
 use Rattle.ag_logblock.specs.Block.{HasBlock}
 use Rattle.ag_outside.specs.Disks.{writes, put_all}
@@ -12,7 +13,7 @@ use Rattle.ag_logstore.specs.Stored.{Stored, sectors_of}
 use Rattle.ag_logstore.specs.Stores.{sector_after, stored_by}
 use Rattle.ag_logstore.proofs.Fitting.{payload_some}
 use Rattle.ag_logstore.proofs.Standing.{IsWritable, count_of_block}
-use Rattle.ag_logstore.proofs.Runs.{IsWrittenTo, one_piece, err_is}
+use Rattle.ag_logstore.proofs.Runs.{IsWrittenTo, one_piece}
 use Rattle.ag_logstore.proofs.Written.{place_is, room_is, moved_to}
 use Rattle.ag_logstore.proofs.Raising.{cut_back, can_cut_back}
 use Rattle.ag_logstore.proofs.appending.harden.Goals as goal

@@ -1,5 +1,5 @@
 use Rattle.std.proofs.Common.{◌≡◌, ◌+◌, ◌++◌, take}
-use Rattle.ag_logstore.specs.LogKept.{starts_after}
+use Rattle.ag_ends.specs.Starts.{starts_after}
 use Rattle.ag_logstore.proofs.growth.push_starts.Given as goal
 
 abbrev pub invariant-loop-record : goal.invariant-loop-record

@@ -1,5 +1,6 @@
 use Rattle.std.proofs.Common.{ap, ◌∙◌, Err}
-use Rattle.ag_logstore.proofs.Runs.{one_read, one_fails, err_is}
+use Rattle.ag_lists.proofs.Results.{err_is}
+use Rattle.ag_logstore.proofs.Runs.{one_read, one_fails}
 use Rattle.ag_logstore.proofs.loading.read_sector.Goals as goal
 
 pub returns-in-Ok-Bytes-clause-stays : goal.returns-in-Ok-Bytes-clause-stays

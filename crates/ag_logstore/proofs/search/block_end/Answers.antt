@@ -1,5 +1,5 @@
 use Rattle.std.proofs.Common.{◌≡◌, ◌+◌, arith, sym, ◌∙◌}
-use Rattle.ag_logstore.proofs.LogEnds.{none_at_zero, got}
+use Rattle.ag_ends.proofs.BlockEnds.{none_at_zero, got}
 use Rattle.ag_logstore.proofs.search.block_end.Goals as goal
 
 pub returns-in_err-before : goal.returns-in_err-before

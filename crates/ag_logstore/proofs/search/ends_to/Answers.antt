@@ -2,7 +2,7 @@ use Rattle.std.proofs.Common.{ℕ, rules, of_calls}
 use Rattle.std.specs.Prelude.{nat_le}
 use Rattle.std.proofs.lemmas.Fn.{always_returns_same}
 use Rattle.std.proofs.lemmas.List.Sorted.{IsPartitionedBy-leb, IsNonDecreasingBy-from_default}
-use Rattle.ag_logstore.proofs.LogEnds.{in_order}
+use Rattle.ag_ends.proofs.Places.{in_order}
 use Rattle.ag_logstore.proofs.Cuts.{take_is_filter}
 use Rattle.ag_logstore.proofs.search.ends_to.Goals as goal
 

@@ -1,5 +1,5 @@
 use Rattle.std.proofs.Common.{arith}
-use Rattle.ag_logstore.proofs.LogEnds.{first_block, searched_end, searched_none}
+use Rattle.ag_ends.proofs.BlockEnds.{first_block, searched_end, searched_none}
 use Rattle.ag_logstore.proofs.search.place_after.Goals as goal
 
 pub returns-then-before-eq0 : goal.returns-then-before-eq0

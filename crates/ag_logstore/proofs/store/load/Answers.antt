@@ -1,7 +1,8 @@
 use Rattle.std.proofs.Common.{ap, ◌∙◌, Err}
+use Rattle.ag_lists.proofs.Results.{err_is}
 use Rattle.ag_outside.specs.Disks.{IsImage}
 use Rattle.ag_outside.proofs.Running.{started, goes_on}
-use Rattle.ag_logstore.proofs.Runs.{err_is, handed_on, sync_then_reads, sync_then_fails, sync_fails, leaves_then, no_more}
+use Rattle.ag_logstore.proofs.Runs.{handed_on, sync_then_reads, sync_then_fails, sync_fails, leaves_then, no_more}
 use Rattle.ag_logstore.proofs.store.load.Goals as goal
 
 pub returns-in_err-log-in-Ok-clause-broken : goal.returns-in_err-log-in-Ok-clause-broken

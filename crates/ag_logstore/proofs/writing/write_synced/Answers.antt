@@ -1,7 +1,8 @@
 use Rattle.std.proofs.Common.{ap, ◌∙◌, Err, inl}
+use Rattle.ag_lists.proofs.Results.{err_is}
 use Rattle.ag_outside.specs.Disks.{writes}
 use Rattle.ag_outside.proofs.Running.{started, goes_on}
-use Rattle.ag_logstore.proofs.Runs.{err_is, IsWrittenTo, still_written, took, sync_failed, write_failed}
+use Rattle.ag_logstore.proofs.Runs.{IsWrittenTo, still_written, took, sync_failed, write_failed}
 use Rattle.ag_logstore.proofs.writing.write_synced.Goals as goal
 
 pub returns-in-Ok-sync-clause-any_moment : goal.returns-in-Ok-sync-clause-any_moment

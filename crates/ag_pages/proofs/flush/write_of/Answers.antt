@@ -1,5 +1,5 @@
 use Rattle.std.proofs.Common.{◌≡◌, ℕ, List, [], length, arith}
-use Rattle.ag_pages.proofs.Sets.{all_from}
+use Rattle.ag_lists.proofs.Each.{all_from}
 use Rattle.ag_pages.proofs.flush.write_of.Goals as goal
 
 pub returns-clause-whole : goal.returns-clause-whole

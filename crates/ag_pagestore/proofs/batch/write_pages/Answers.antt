@@ -1,12 +1,12 @@
 use Rattle.std.proofs.Common.{◌≡◌, ℕ, [], get_or, IsTrue, ap, sym, ◌∙◌, subst, Err, Result, arith}
 use Rattle.std.proofs.lemmas.Result.{err_from_is_err_and}
+use Rattle.ag_lists.proofs.Each.{all_take_more}
 use Rattle.ag_outside.specs.declared.disk.DiskError.{DiskError}
 use Rattle.ag_outside.specs.Calls.{Write_call}
 use Rattle.ag_outside.proofs.Running.{goes_on}
 use Rattle.ag_page.specs.Home.{with_mark}
 use Rattle.ag_pagestore.specs.declared.batch.PageWrite.{PageWrite}
 use Rattle.ag_pagestore.specs.Batches.{IsWhole, marked}
-use Rattle.ag_pagestore.proofs.Lists.{all_more}
 use Rattle.ag_pagestore.specs.Moments.{IsPartOf}
 use Rattle.ag_pagestore.proofs.Faults.{failed_is}
 use Rattle.ag_pagestore.proofs.Rising.{landed_more, crash_more, calls_more, broken_at, part_more}
@@ -32,7 +32,7 @@ returns-in_err-write-clause-any_moment g c =
     let here = get_or c.args.pages.now c.loop-i.i none in
     let so_far = c.loop-i.invariant in
     let new = c.write.new.self in
-    let whole = all_more IsWhole c.args.pages.now c.loop-i.i none c.loop-i-test.true so_far.whole (c.with_mark-image.ensures.sectors, c.with_mark-image.ensures.bytes) in
+    let whole = all_take_more IsWhole c.args.pages.now c.loop-i.i none c.loop-i-test.true so_far.whole (c.with_mark-image.ensures.sectors, c.with_mark-image.ensures.bytes) in
     let hold = g.D.Disk.may_hold in
     goes_on g.D.Disk.moment g.D.Disk.left_since d c.loop-i.disk new (IsPartOf (hold d) disk c.args.pages.now) _ _ so_far.any_moment c.write.ensures.time
     (λ image at_new.
@@ -49,7 +49,7 @@ loop-i-preserved g c =
     let so_far = c.loop-i.invariant in
     let mid = c.loop-i.disk in
     let new = c.write.new.self in
-    let whole = all_more IsWhole c.args.pages.now c.loop-i.i none c.loop-i-test.true so_far.whole (c.with_mark-image.ensures.sectors, c.with_mark-image.ensures.bytes) in
+    let whole = all_take_more IsWhole c.args.pages.now c.loop-i.i none c.loop-i-test.true so_far.whole (c.with_mark-image.ensures.sectors, c.with_mark-image.ensures.bytes) in
     let hold = g.D.Disk.may_hold in
     let did = c.in_ok-write.ensures in
     let is : IsTrue (g.D.Disk.keeps d) → c.with_mark-image.result ≡ marked disk here = λ keeps. c.with_mark-image.ensures.marked ∙ ap (λ (m : ℕ). with_mark m here.image) (c.requires.marks keeps c.loop-i.i none c.loop-i-test.true) in

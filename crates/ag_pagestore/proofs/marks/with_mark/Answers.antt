@@ -1,7 +1,7 @@
 use Rattle.std.proofs.Common.{◌≡◌, [], ◌∷◌, ◌++◌, List, ℕ, take, length, sym, ◌∙◌, arith}
 use Rattle.std.proofs.lemmas.List.{ext_get_or, get_or-map, length-map}
+use Rattle.ag_lists.proofs.Each.{all_from}
 use Rattle.ag_page.specs.Home.{with_mark}
-use Rattle.ag_pagestore.proofs.Lists.{all_from}
 use Rattle.ag_pagestore.proofs.marks.with_mark.Goals as goal
 
 pub returns-clause-bytes : goal.returns-clause-bytes

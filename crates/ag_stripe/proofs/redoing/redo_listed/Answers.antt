@@ -1,11 +1,11 @@
 use Rattle.std.proofs.Common.{◌||◌, ◌&&◌, ◌<◌, length, get_or, take, ◌+◌, sym, arith, eqb}
 use Rattle.std.proofs.lemmas.Result.{err_from_is_err_and}
+use Rattle.std.proofs.lemmas.List.Folds.{list_any_more}
 use Rattle.ag_model.specs.Rows.{contains, touches}
 use Rattle.ag_stripe.specs.Tables.{is_own}
 use Rattle.ag_stripe.proofs.Edits.{edits-then, edits-since}
 use Rattle.ag_stripe.proofs.Readings.{same-then}
 use Rattle.ag_stripe.proofs.Redone.{redone-more, redone-as, refusal-first}
-use Rattle.ag_stripe.proofs.Visits.{any-more}
 use Rattle.ag_stripe.proofs.redoing.redo_listed.Goals as goal
 
 pub returns-in_err-redo_on-clause-refused : goal.returns-in_err-redo_on-clause-refused
@@ -33,7 +33,7 @@ loop-page-preserved c =
     let lt : i < length pages = omega arith in
     record {
       same = same-then start old new inv.same c.redo_on.ensures.same;
-      redone = redone-as start new c.args.lsn c.args.entry.now (λ q. contains q (take i pages) || eqb q (get_or pages i 0)) (λ q. contains q (take (i + 1) pages)) (λ q. sym (any-more (eqb q) pages i 0 lt))
+      redone = redone-as start new c.args.lsn c.args.entry.now (λ q. contains q (take i pages) || eqb q (get_or pages i 0)) (λ q. contains q (take (i + 1) pages)) (λ q. sym (list_any_more (eqb q) pages i 0 lt))
           (redone-more start old new c.args.lsn c.args.entry.now (λ q. contains q (take i pages)) (λ q. eqb q (get_or pages i 0)) inv.same inv.redone c.in_ok-redo_on.ensures.redone);
       edits = edits-then start old new (λ q. is_own start q && touches start.pages q c.args.entry.now) inv.edits (edits-since start old new c.args.entry.now inv.same c.redo_on.ensures.edits);
     }

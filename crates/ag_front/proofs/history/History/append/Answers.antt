@@ -1,5 +1,5 @@
 use Rattle.std.proofs.Common.{sym}
-use Rattle.ag_front.proofs.Starts.{starts_whole}
+use Rattle.ag_ends.proofs.Starts.{starts_whole}
 use Rattle.ag_front.proofs.history.History.append.Goals as goal
 
 pub invariant_of-self-2 : goal.invariant_of-self-2

@@ -5,10 +5,10 @@ use Rattle.ag_model.specs.declared.record.Record.{Record}
 use Rattle.ag_model.specs.Blocks.{after_to}
 use Rattle.ag_model.specs.Prefixes.{end_of}
 use Rattle.ag_model.specs.Proper.{IsProper}
+use Rattle.ag_ends.specs.Starts.{term_by}
+use Rattle.ag_ends.proofs.Starts.{term_at_is}
 use Rattle.ag_front.specs.Fetches.{IsBlockAfter}
-use Rattle.ag_front.specs.Starts.{term_by}
 use Rattle.ag_front.proofs.Ends.{at_the_end, next_end_there, block_after_there}
-use Rattle.ag_front.proofs.Starts.{term_at_is}
 use Rattle.ag_front.proofs.history.History.block_after.Goals as goal
 
 pub returns-in_default : goal.returns-in_default

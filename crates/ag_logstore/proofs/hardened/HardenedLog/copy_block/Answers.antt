@@ -1,6 +1,6 @@
 use Rattle.std.proofs.Common.{◌≡◌, ◌+◌, ◌-◌, sym, arith}
 use Rattle.std.proofs.lemmas.List.{drop-take}
-use Rattle.ag_logstore.proofs.LogCopies.{clone_same}
+use Rattle.ag_ends.proofs.Records.{clone_same}
 use Rattle.ag_logstore.proofs.Fitting.{fit_between}
 use Rattle.ag_logstore.proofs.hardened.HardenedLog.copy_block.Goals as goal
 

@@ -2,11 +2,15 @@ use Rattle.std.proofs.Common.{subst, sym}
 use Rattle.std.specs.List.Sorted.{IsNonDecreasingBy}
 use Rattle.ag_model.specs.declared.config.TermStart.{TermStart}
 use Rattle.ag_model.specs.declared.record.Log.{Log}
-use Rattle.ag_logstore.proofs.Cuts.{starts_rise, kept_less, IsCut}
+use Rattle.ag_model.specs.Starts.{term_starts}
+use Rattle.ag_ends.proofs.Rise.{rise}
+use Rattle.ag_ends.proofs.CutStarts.{starts_in_order}
+use Rattle.ag_logstore.proofs.Cuts.{kept_less, IsCut}
 use Rattle.ag_logstore.proofs.hardened.HardenedLog.cut.Goals as goal
 
 pub cut_starts-requires : goal.cut_starts-requires
-cut_starts-requires c = subst (IsNonDecreasingBy (λ (s : TermStart). s.lsn)) (sym c.self.invariant.starts) (starts_rise 0 c.self.inside.records)
+cut_starts-requires c = subst (IsNonDecreasingBy (λ (s : TermStart). s.lsn)) (sym c.self.invariant.starts)
+    (starts_in_order 0 _ (term_starts c.self.inside.records) (rise 0 c.self.inside.records))
 
 pub invariant_of-self : goal.invariant_of-self
 invariant_of-self c =

@@ -1,6 +1,6 @@
 use Rattle.std.proofs.Common.{arith}
 use Rattle.std.proofs.lemmas.Grind.{common_steps}
-use Rattle.ag_logstore.proofs.LogStarts.{term_at_is}
+use Rattle.ag_ends.proofs.Starts.{term_at_is}
 use Rattle.ag_logstore.proofs.hardened.HardenedLog.term_at.Goals as goal
 
 pub returns : goal.returns

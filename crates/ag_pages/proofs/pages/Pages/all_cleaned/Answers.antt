@@ -1,8 +1,9 @@
 use Rattle.std.proofs.Common.{◌≡◌, ◌<◌, ℕ, List, length, get_or, cond, false, true, ap, ◌∙◌, arith}
 use Rattle.std.proofs.lemmas.List.{take_all}
+use Rattle.ag_lists.proofs.Each.{all_at}
 use Rattle.ag_model.specs.Rows.{contains}
 use Rattle.ag_pages.specs.Views.{is_dirty, is_page}
-use Rattle.ag_pages.proofs.Underway.{all_at, page_same, clean_more}
+use Rattle.ag_pages.proofs.Underway.{page_same, clean_more}
 use Rattle.ag_pages.proofs.pages.Pages.all_cleaned.Goals as goal
 
 pub cleaned-requires : goal.cleaned-requires

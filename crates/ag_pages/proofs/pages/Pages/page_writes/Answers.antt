@@ -1,12 +1,13 @@
 use Rattle.std.proofs.Common.{◌≡◌, ◌<◌, ◌≤◌, length, get_or, subst, ◌∙◌, arith}
 use Rattle.std.proofs.lemmas.List.{length-set}
+use Rattle.ag_lists.proofs.Each.{all_at}
 use Rattle.ag_pagestore.specs.Batches.{IsWhole}
 use Rattle.ag_stripe.specs.Known.{Told}
 use Rattle.ag_pages.specs.Reading.{OnlyReadsIn}
 use Rattle.ag_pages.specs.Views.{told_by}
 use Rattle.ag_pages.specs.Flush.{IsToWrite}
 use Rattle.ag_pages.proofs.Batches.{read_both}
-use Rattle.ag_pages.proofs.Underway.{all_at, reads_then, told_same, to_write_still, writes_more, whole_more, fit_more}
+use Rattle.ag_pages.proofs.Underway.{reads_then, told_same, to_write_still, writes_more, whole_more, fit_more}
 use Rattle.ag_pages.proofs.pages.Pages.page_writes.Goals as goal
 
 pub page_write-requires-clause-page : goal.page_write-requires-clause-page

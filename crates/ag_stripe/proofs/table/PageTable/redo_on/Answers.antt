@@ -1,9 +1,10 @@
 use Rattle.std.proofs.Common.{◌&&◌, sym, ap, ◌∙◌, subst, set}
+use Rattle.std.proofs.lemmas.Bool.{and_from}
 use Rattle.ag_model.specs.Rows.{touches}
 use Rattle.ag_stripe.specs.declared.slot.Slot.{Slot}
 use Rattle.ag_stripe.specs.Redo.{redone_slot, CanTake}
 use Rattle.ag_stripe.specs.Tables.{is_own, slot_of}
-use Rattle.ag_stripe.proofs.Edits.{both-true, edits-slot}
+use Rattle.ag_stripe.proofs.Edits.{edits-slot}
 use Rattle.ag_stripe.proofs.Slots.{slot-at, slot-edited-own}
 use Rattle.ag_stripe.proofs.table.PageTable.redo_on.Goals as goal
 use Rattle.ag_stripe.proofs.table.PageTable.redo_on.Goals.{in-Ok, in-Err-PageFull, in-Err-NoMemory}
@@ -45,4 +46,4 @@ returns-clause-edits c =
     let now = c.args.self.now in
     let own = sym c.owns.ensures ∙ c.if-not-owns.false in
     edits-slot (record { number = t.number; pages = t.pages; slots = t.slots.items }) now c.args.page c.place_of.result c.redo.new.self c.index_mut.result.now (λ q. is_own now q && touches now.pages q c.args.entry.now) c.self.view_is c.self.invariant own c.place_of.ensures c.index_mut.ensures.value c.redo.ensures.kept
-    (both-true (is_own now c.args.page) (touches now.pages c.args.page c.args.entry.now) own c.requires)
+    (and_from (is_own now c.args.page) (touches now.pages c.args.page c.args.entry.now) own c.requires)

@@ -1,4 +1,4 @@
--- The term starts of a log in memory.
+-- The term starts in a part of a log.
 use Rattle.std.specs.Prelude.{ℕ, ◌+◌, List, nat_le, if◌then◌else◌}
 use Rattle.std.specs.List.{flat_map, fold, enumerate_from}
 use Rattle.ag_model.specs.declared.config.TermStart.{TermStart}

@@ -1,33 +1,16 @@
 -- Where a block starts and ends, among ends that rise.
-use Rattle.std.proofs.Common.{◌≡◌, ◌≢◌, ℕ, zero, suc, ◌+◌, ◌<◌, ◌≤◌, List, [], ◌∷◌, length, get_or, Bool, true, false, refl, sym, ap, ◌∙◌, arith}
+use Rattle.std.proofs.Common.{◌≡◌, ◌≢◌, ℕ, zero, suc, ◌+◌, ◌<◌, ◌≤◌, List, [], ◌∷◌, length, get_or, refl, sym, ap, ◌∙◌, arith}
 use Rattle.std.specs.Prelude.{Option, Some, None, Ok, Err, if◌then◌else◌, ◌==◌}
 use Rattle.std.specs.List.{slice_get, HoldsAt}
+use Rattle.std.specs.List.Sorted.{IsBinarySearchResult}
 use Rattle.std.specs.Option.{MatchOption, option_copied}
 use Rattle.std.specs.Borrow.{Bor}
-use Rattle.std.proofs.lemmas.Option.{slice_get_past, slice_get-get_or}
-use Rattle.std.specs.List.Sorted.{IsBinarySearchResult}
 use Rattle.std.specs.Ordering.{nat_cmp}
-use Rattle.std.proofs.lemmas.List.Sorted.{searched}
+use Rattle.std.proofs.lemmas.Option.{slice_get_past, slice_get-get_or}
 use Rattle.ag_model.specs.Blocks.{end_of_block}
 use Rattle.ag_model.specs.Proper.{RisesFrom}
-
-by_bool : (b : Bool) (P : Bool → Type 0) → (b ≡ true → P true) → (b ≡ false → P false) → P b
-by_bool true P t f = t refl
-by_bool false P t f = f refl
-
--- each end is above the LSN that the ends rise from
-pub above : (low i : ℕ) (es : List ℕ) → RisesFrom low es → i < length es → low < get_or es i 0
-above low i [] p h = absurd (omega (arith, h))
-above low zero (e ∷ es) p h = p.0
-above low (suc i) (e ∷ es) p h = omega (arith, p.0, above e i es p.1 (omega (arith, h)))
-
--- ends that rise are in order
-pub in_order : (low i j : ℕ) (es : List ℕ) → RisesFrom low es → i ≤ j → j < length es → get_or es i 0 ≤ get_or es j 0
-in_order low i j [] p o h = absurd (omega (arith, h))
-in_order low zero zero (e ∷ es) p o h = omega arith
-in_order low zero (suc j) (e ∷ es) p o h = omega (arith, above e j es p.1 (omega (arith, h)))
-in_order low (suc i) zero (e ∷ es) p o h = absurd (omega (arith, o))
-in_order low (suc i) (suc j) (e ∷ es) p o h = in_order e i j es p.1 (omega (arith, o)) (omega (arith, h))
+use Rattle.ag_lists.proofs.Tests.{by_bool}
+use Rattle.ag_ends.proofs.Places.{above, found, missed}
 
 -- the first block
 pub first_block : (low : ℕ) (es : List ℕ) → end_of_block low (low + 1) es ≡ slice_get es 0
@@ -70,7 +53,7 @@ none_at_zero low (e ∷ es) =
 pub searched_end : (es : List ℕ) (before place : ℕ) → RisesFrom 0 es → IsBinarySearchResult (λ y. nat_cmp y before) es (Ok place)
     → end_of_block 0 (before + 1) es ≡ slice_get es (place + 1)
 searched_end es before place p s =
-    let f = searched es before (Ok place) s (λ i j. in_order 0 i j es p) in
+    let f = found 0 before place es p s in
     let e : place + 1 ≡ suc place = omega arith in
     rw (e, ← f.1) (next_block 0 place es p f.0)
 
@@ -78,7 +61,7 @@ searched_end es before place p s =
 pub searched_none : (es : List ℕ) (before place : ℕ) → RisesFrom 0 es → before ≢ 0 → IsBinarySearchResult (λ y. nat_cmp y before) es (Err place)
     → end_of_block 0 (before + 1) es ≡ None
 searched_none es before place p z s =
-    let f = searched es before (Err place) s (λ i j. in_order 0 i j es p) in
+    let f = missed 0 before place es p s in
     no_block 0 before es (λ e. z (sym e)) (λ k h e. grind (arith, f.1 k, f.2 k, e, h))
 
 -- what `get` finds

@@ -1,14 +1,16 @@
--- The term starts of a log in memory.
-use Rattle.std.proofs.Common.{◌≡◌, ℕ, zero, suc, ◌+◌, ◌<◌, ◌≤◌, List, [], ◌∷◌, ◌++◌, length, get_or, take, Bool, true, false, refl, sym, ap, ◌∙◌, arith, append_assoc, append-nil, zero-add}
-use Rattle.std.specs.Prelude.{if◌then◌else◌, nat_le}
+-- The term starts of a log part by part, and the term at an LSN.
+use Rattle.std.proofs.Common.{◌≡◌, ℕ, zero, suc, ◌+◌, ◌<◌, List, [], ◌∷◌, ◌++◌, length, get_or, take, refl, sym, ap, ◌∙◌, arith, append_assoc, append-nil, zero-add}
+use Rattle.std.specs.Prelude.{nat_le}
 use Rattle.std.specs.List.{fold}
-use Rattle.std.proofs.lemmas.Bool.{leb-true, leb-false}
+use Rattle.std.proofs.lemmas.Bool.{leb-false}
 use Rattle.std.proofs.lemmas.List.{take_more, length-take-le}
 use Rattle.ag_model.specs.declared.config.TermStart.{TermStart}
 use Rattle.ag_model.specs.declared.record.Record.{Record}
 use Rattle.ag_model.specs.declared.record.Record.TheVariants.{Put, Del, Commit, Abort, Trim, Term}
 use Rattle.ag_model.specs.Starts.{start_by, term_starts, last_term}
-use Rattle.ag_logstore.specs.LogKept.{starts_after, term_by}
+use Rattle.ag_lists.proofs.Tests.{if_has}
+use Rattle.ag_ends.specs.Starts.{starts_after, term_by}
+use Rattle.ag_ends.proofs.Rise.{rise, term_with, none_above}
 
 -- the starts of records one after the other
 pub starts_append : (lsn : ℕ) (xs ys : List Record) → starts_after lsn (xs ++ ys) ≡ starts_after lsn xs ++ starts_after (lsn + length xs) ys
@@ -40,29 +42,8 @@ starts_step old now next before lsn i rs r h e n p q =
 pub starts_whole : (xs ys : List Record) → term_starts (xs ++ ys) ≡ term_starts xs ++ starts_after (length xs) ys
 starts_whole xs ys = starts_append 0 xs ys ∙ ap (λ m. term_starts xs ++ starts_after m ys) (zero-add (length xs))
 
-if_has : {A : Type 0} (P : A → Type 0) (b : Bool) (x y : A) → (b ≡ true → P x) → (b ≡ false → P y) → P (if b then x else y)
-if_has P true x y t f = t refl
-if_has P false x y t f = f refl
-
--- the term at an LSN after one start more
-abbrev term_with : ℕ → ℕ → TermStart → ℕ
-term_with last term s = if nat_le s.lsn last then s.term else term
-
--- starts above an LSN change nothing
-none_above : (last lsn d : ℕ) (rs : List Record) → last ≤ lsn → fold (term_with last) d (starts_after lsn rs) ≡ d
-none_above last lsn d [] h = refl
-none_above last lsn d (Term t ∷ rs) h =
-    if_has (λ (x : ℕ). fold (term_with last) x (starts_after (lsn + 1) rs) ≡ d) (nat_le (lsn + 1) last) t d
-    (λ e. absurd (omega (arith, h, leb-true (lsn + 1) last e)))
-    (λ _. none_above last (lsn + 1) d rs (omega (arith, h)))
-none_above last lsn d (Put t key v ∷ rs) h = none_above last (lsn + 1) d rs (omega (arith, h))
-none_above last lsn d (Del t key ∷ rs) h = none_above last (lsn + 1) d rs (omega (arith, h))
-none_above last lsn d (Commit t ps ∷ rs) h = none_above last (lsn + 1) d rs (omega (arith, h))
-none_above last lsn d (Abort t ps ∷ rs) h = none_above last (lsn + 1) d rs (omega (arith, h))
-none_above last lsn d (Trim p g ∷ rs) h = none_above last (lsn + 1) d rs (omega (arith, h))
-
 -- the last term of the first records, by the starts of all
-abbrev TermIs : ℕ → ℕ → ℕ → List Record → Type 0
+abbrev pub TermIs : ℕ → ℕ → ℕ → List Record → Type 0
 TermIs lsn n d rs = fold (term_with (lsn + n)) d (starts_after lsn rs) ≡ fold (λ last (s : TermStart). s.term) d (starts_after lsn (take n rs))
 
 later : (lsn n d : ℕ) (rs : List Record) → TermIs (lsn + 1) n d rs
@@ -71,10 +52,10 @@ later lsn n d rs h =
     let e : lsn + suc n ≡ (lsn + 1) + n = omega arith in
     ap (λ m. fold (term_with m) d (starts_after (lsn + 1) rs)) e ∙ h
 
-term_is : (lsn n d : ℕ) (rs : List Record) → TermIs lsn n d rs
+pub term_is : (lsn n d : ℕ) (rs : List Record) → TermIs lsn n d rs
 term_is lsn zero d [] = refl
 term_is lsn (suc n) d [] = refl
-term_is lsn zero d (x ∷ rs) = none_above (lsn + 0) lsn d (x ∷ rs) (omega arith)
+term_is lsn zero d (x ∷ rs) = none_above (lsn + 0) d lsn _ (starts_after lsn (x ∷ rs)) (omega arith) (rise lsn (x ∷ rs))
 term_is lsn (suc n) d (Term t ∷ rs) =
     if_has (λ (x : ℕ). fold (term_with (lsn + suc n)) x (starts_after (lsn + 1) rs) ≡ fold (λ last (s : TermStart). s.term) t (starts_after (lsn + 1) (take n rs)))
     (nat_le (lsn + 1) (lsn + suc n)) t d
