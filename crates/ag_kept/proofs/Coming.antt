@@ -32,7 +32,8 @@ use Rattle.ag_kept.specs.Reaching.{how_far, order_of}
 use Rattle.ag_kept.specs.Ending.{next, IsSettled, EndsBy, WentThrough, reach_of}
 use Rattle.ag_kept.specs.Stopping.{stopped_image, keeps_block}
 use Rattle.ag_kept.specs.Standing.{HasLog, LeavesLog, reached_log}
-use Rattle.ag_kept.proofs.Calls.{ordered, leads_later, write_ends, went_through}
+use Rattle.ag_outside.proofs.Quiet.{leads_later}
+use Rattle.ag_kept.proofs.Calls.{ordered, write_ends, went_through}
 use Rattle.ag_kept.proofs.Stops.{kept_wrote, stopped_log, stopped_greatest}
 use Rattle.ag_kept.proofs.Orders.{far_stop, far_fail, far_end, count_tells}
 

@@ -25,7 +25,8 @@ use Rattle.ag_stripe.specs.Ahead.{IsAhead, AreNext}
 use Rattle.ag_stripe.specs.Known.{Told, Known, Says}
 use Rattle.ag_stripe.specs.Known.Known.{Value, NotSound}
 use Rattle.ag_kept.specs.declared.fault.KeptFault.{KeptFault}
-use Rattle.ag_kept.proofs.Calls.{ordered, Quiet, read_only}
+use Rattle.ag_outside.proofs.Quiet.{Quiet}
+use Rattle.ag_kept.proofs.Calls.{ordered, read_only}
 use Rattle.ag_pages.specs.Views.{PagesView, applied_of, is_of, is_dirty, known_of}
 use Rattle.ag_pages.specs.Reading.{WasOnlyRead}
 use Rattle.ag_pages.specs.Redo.{is_touched, IsLeastBad, IsForeign}

@@ -14,7 +14,8 @@ use Rattle.ag_outside.specs.Disks.{Content, Image}
 use Rattle.ag_outside.specs.Scripts.{ScriptedView}
 use Rattle.ag_outside.specs.Shown.{reads_of, holds_of, did_of, Told, ToldAtSync, DidSync}
 use Rattle.ag_kept.specs.Ending.{IsSettled, EndsSync}
-use Rattle.ag_kept.proofs.Calls.{ordered, read_only, risen_before, risen_after, sync_ends}
+use Rattle.ag_outside.proofs.Quiet.{risen_before, risen_after}
+use Rattle.ag_kept.proofs.Calls.{ordered, read_only, sync_ends}
 use Rattle.ag_pagestore.specs.declared.batch.PageWrite.{PageWrite}
 use Rattle.ag_pagestore.specs.Batches.{pieces}
 use Rattle.ag_pages.specs.Reading.{WasOnlyRead}

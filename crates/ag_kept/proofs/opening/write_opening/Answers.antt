@@ -5,7 +5,7 @@ use Rattle.ag_outside.specs.Disks.{Image}
 use Rattle.ag_outside.specs.Shown.{reads_of}
 use Rattle.ag_logstore.specs.Stores.{StoreView}
 use Rattle.ag_kept.specs.declared.reach.Reach.{Reach}
-use Rattle.ag_kept.proofs.Calls.{risen_before}
+use Rattle.ag_outside.proofs.Quiet.{risen_before}
 use Rattle.ag_kept.proofs.Homes.{master_leaves_pages, log_leaves_pages}
 use Rattle.ag_kept.proofs.Opened.{both_ok, opened_log, opened_store_is, opened_at_home, opened_kept_on, opened_memory}
 use Rattle.ag_kept.proofs.opening.write_opening.Goals as goal

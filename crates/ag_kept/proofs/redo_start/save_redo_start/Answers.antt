@@ -4,7 +4,7 @@ use Rattle.ag_outside.specs.Disks.{Image}
 use Rattle.ag_outside.specs.Shown.{reads_of, did_of}
 use Rattle.ag_master.specs.declared.master.Master.{Master}
 use Rattle.ag_kept.specs.Saving.{freed, master_piece}
-use Rattle.ag_kept.proofs.Calls.{risen_before}
+use Rattle.ag_outside.proofs.Quiet.{risen_before}
 use Rattle.ag_kept.proofs.Homes.{master_leaves_pages}
 use Rattle.ag_kept.proofs.Opened.{both_ok}
 use Rattle.ag_kept.proofs.Redoing.{saved_fits, saved_home, saved_kept, saved_memory}

@@ -1,6 +1,7 @@
 use Rattle.std.proofs.Common.{Err, sym, ap, ◌∙◌, subst}
 use Rattle.ag_kept.specs.Ending.{EndsSync}
-use Rattle.ag_kept.proofs.Calls.{sync_ends, sync_below, was_synced, leads_later}
+use Rattle.ag_outside.proofs.Quiet.{leads_later}
+use Rattle.ag_kept.proofs.Calls.{sync_ends, sync_below, was_synced}
 use Rattle.ag_kept.proofs.starting.load_log.Goals as goal
 
 pub returns-in-Ok-clause-loaded : goal.returns-in-Ok-clause-loaded

@@ -7,7 +7,8 @@ use Rattle.ag_master.specs.Spelling.{spelling}
 use Rattle.ag_kept.specs.declared.fault.KeptFault.TheVariants.{DiskFault}
 use Rattle.ag_kept.specs.Ending.{reach_of}
 use Rattle.ag_kept.specs.Starting.{raised_master}
-use Rattle.ag_kept.proofs.Calls.{write_ends, went_through, leads_later}
+use Rattle.ag_outside.proofs.Quiet.{leads_later}
+use Rattle.ag_kept.proofs.Calls.{write_ends, went_through}
 use Rattle.ag_kept.proofs.Coming.{if_ok, on_ok}
 use Rattle.ag_kept.proofs.Beginning.{Wrote, wrote, write_below}
 use Rattle.ag_kept.proofs.starting.raise.Goals as goal

@@ -2,7 +2,7 @@ use Rattle.std.proofs.Common.{◌+◌, ◌^◌, ◌<◌, false, sym, ap, ◌∙�
 use Rattle.ag_outside.specs.Disks.{Image}
 use Rattle.ag_outside.specs.Shown.{reads_of}
 use Rattle.ag_kept.specs.Kept.{master_on, kept_on, started}
-use Rattle.ag_kept.proofs.Calls.{risen_before}
+use Rattle.ag_outside.proofs.Quiet.{risen_before}
 use Rattle.ag_kept.proofs.Coming.{if_ok}
 use Rattle.ag_kept.proofs.Homes.{reads_leave_pages, pages_then}
 use Rattle.ag_kept.proofs.Opened.{both_ok}

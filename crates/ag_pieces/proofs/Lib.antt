@@ -1,0 +1,4 @@
+pub mod Ahead
+pub mod Broken
+pub mod Orders
+pub mod Passed
