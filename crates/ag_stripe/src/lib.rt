@@ -15,3 +15,4 @@ mod visiting;
 pub use fault::StripeFault;
 pub use slot::Slot;
 pub use stripe::{Away, Stripe};
+pub use visiting::page_of;

@@ -15,7 +15,7 @@ use ag_page::PageHome;
 use std::alloc::Global;
 
 /// The page of a key, where there are so many data pages.
-pub(crate) fn page_of(pages: u16, key: u32) -> u16
+pub fn page_of(pages: u16, key: u32) -> u16
     requires low { 16 ≤ pages }
     requires high { pages ≤ 2048 }
     ensures { result ≡ page_of pages key }
