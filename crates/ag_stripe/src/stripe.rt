@@ -115,6 +115,22 @@ impl<H: PageHome> Stripe<H> {
 }
 
 impl<H> Stripe<H> {
+    /// How many data pages the database has.
+    pub fn pages(&self) -> u16
+        ensures answer { result ≡ self.now.table.pages }
+        ensures low { 16 ≤ result }
+        ensures high { result ≤ 2048 }
+    {
+        self.table.pages()
+    }
+
+    /// Whether a page is one of the stripe's.
+    pub fn owns(&self, page: u16) -> bool
+        ensures { result ≡ is_own self.now.table page }
+    {
+        self.table.owns(page)
+    }
+
     /// The applied LSN.
     pub fn applied(&self) -> u64
         ensures { result ≡ self.now.applied }
