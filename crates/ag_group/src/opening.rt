@@ -76,7 +76,8 @@ fn open_next<D: Disk>(
     ensures disks { OnOk result (disks.new.items ≡ drop 1 disks.old.items) }
     ensures same { OnErr result (nodes.new.items ≡ nodes.old.items) }
     ensures back { OnErr result (length disks.new.items ≡ length disks.old.items) }
-    ensures fault { IfErr result (λ e. (n : ℕ) → e ≡ StepFault.DiskFault n → (n ≡ length nodes.old.items) × HasRisen (get_or (map D.faults disks.old.items) 0 0) (get_or (map D.faults disks.new.items) 0 0)) }
+    ensures fault { IfErr result (λ e. (n : ℕ) → e ≡ StepFault.DiskFault n → (n ≡ length nodes.old.items)
+        × HasRisen (get_or (map D.faults disks.old.items) 0 0) (get_or (map D.faults disks.new.items) 0 0)) }
     ensures lawful { IfErr result IsLawful }
     ensures nodes_capacity { vec_capacity nodes.old ≤ vec_capacity nodes.new }
     ensures disks_capacity { deque_capacity disks.new ≡ deque_capacity disks.old }
@@ -112,7 +113,8 @@ fn open_each<D: Disk>(
     ensures nodes { OnOk result (replicas_of nodes.new.items ≡ opening_replicas config.now config.now.modes) }
     ensures all { OnOk result (deque_len disks.new ≡ 0) }
     ensures back { OnErr result (length nodes.new.items + length disks.new.items ≡ length disks.old.items) }
-    ensures fault { IfErr result (λ e. (n : ℕ) → e ≡ StepFault.DiskFault n → (n ≡ length nodes.new.items) × HasRisen (get_or (map D.faults disks.old.items) n 0) (get_or (map D.faults disks.new.items) 0 0)) }
+    ensures fault { IfErr result (λ e. (n : ℕ) → e ≡ StepFault.DiskFault n → (n ≡ length nodes.new.items)
+        × HasRisen (get_or (map D.faults disks.old.items) n 0) (get_or (map D.faults disks.new.items) 0 0)) }
     ensures lawful { IfErr result IsLawful }
     ensures capacity { deque_capacity disks.new ≡ deque_capacity disks.old }
 {

@@ -23,7 +23,6 @@ use ag_script::fault::ScriptFault;
 use ag_script::script::read_events;
 use std::alloc::{AllocError, Global};
 
-
 /// Plays the scenario that the source has, and writes its transcript to the sink: a header line, and a line for each answer.
 ///
 /// The statuses come in this order: reading (`ReadFault`, `TooMany` text), then the head (`BadConfig`), then the lines

@@ -28,7 +28,8 @@ pub record IsSettled {D : Type 0} (keeps : D → Bool) (old new : ScriptedView D
 abbrev pub EndsBy : {D : Type 0} → (D → Bool) → (D → Image) → (D → ℕ → Content → Type 0) → (D → ℕ) → ScriptedView D → Piece → ScriptedView D → Why → Type 0
 EndsBy keeps reads may_hold faults old piece new Nothing = ⊥
 EndsBy keeps reads may_hold faults old piece new (Stopped write count) =
-    (mask : ℕ) × (old.order ≡ Stop write mask) × (write ≡ next old.writes) × (count ≡ min (length (kept mask 0 (writes piece.first piece.sectors))) (2 ^ 32 - 1)) × IsSettled keeps old new × (IsTrue (keeps old.disk) → reads_of reads new ≡ put_all (reads_of reads old) (kept mask 0 (writes piece.first piece.sectors)))
+    (mask : ℕ) × (old.order ≡ Stop write mask) × (write ≡ next old.writes) × (count ≡ min (length (kept mask 0 (writes piece.first piece.sectors))) (2 ^ 32 - 1))
+    × IsSettled keeps old new × (IsTrue (keeps old.disk) → reads_of reads new ≡ put_all (reads_of reads old) (kept mask 0 (writes piece.first piece.sectors)))
 EndsBy keeps reads may_hold faults old piece new Device =
     ((old.order ≡ Fail (next old.calls)) ⊎ (old.order ≡ Fail (next (next old.calls)))) × IsSettled keeps old new × (IsTrue (keeps old.disk) → reads_of reads new ≡ reads_of reads old)
 EndsBy keeps reads may_hold faults old piece new Inner = HasRisen (faults old.disk) (faults new.disk)

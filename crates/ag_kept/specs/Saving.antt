@@ -18,7 +18,8 @@ abbrev pub master_piece : Master → Piece
 master_piece m = record { first = 0; sectors = spelling m ∷ [] }
 
 -- outside of any order the disk was read, and then it took this master and synced it
-pub record SavesMaster {D : Type 0} (keeps : D → Bool) (reads : D → Image) (may_hold : D → ℕ → Content → Type 0) (faults : D → ℕ) (old : ScriptedView D) (m : Master) (new : ScriptedView D) : Type 0 where
+pub record SavesMaster {D : Type 0} (keeps : D → Bool) (reads : D → Image) (may_hold : D → ℕ → Content → Type 0) (faults : D → ℕ)
+    (old : ScriptedView D) (m : Master) (new : ScriptedView D) : Type 0 where
   pub between : ScriptedView D
   pub read : IsReadOnly (did_of keeps reads may_hold faults) (freed old) between
   pub took : TakesAll (did_of keeps reads may_hold faults) (freed between) (master_piece m ∷ []) new

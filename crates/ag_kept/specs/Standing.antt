@@ -49,7 +49,8 @@ pub record IsBlank {D : Type 0} (keeps : D → Bool) (reads : D → Image) (disk
   pub zeros : (at : ℕ) → or_zeros (reads_of reads disk at) ≡ replicate 512 0
 
 -- what holds of the fields of a store: its disk is that of a replica unless a fault came
-pub record IsStore {D : Type 0} (size : D → ℕ) (keeps : D → Bool) (reads : D → Image) (may_hold : D → ℕ → Content → Type 0) (disk : ScriptedView D) (memory : Option StoreView) (sound : Bool) : Type 0 where
+pub record IsStore {D : Type 0} (size : D → ℕ) (keeps : D → Bool) (reads : D → Image) (may_hold : D → ℕ → Content → Type 0)
+    (disk : ScriptedView D) (memory : Option StoreView) (sound : Bool) : Type 0 where
   pub room : log_end ≤ size disk.disk
   pub stands : sound ≡ true → IsAtHome keeps reads disk
   pub loaded : sound ≡ true → MatchOption memory (Unit {0}) (λ s. IsMemory keeps reads may_hold disk s)

@@ -16,7 +16,8 @@ ghost use Rattle.ag_kept.specs.Stopping.{stopped_image, log_where, keeps_block, 
 /// After a stop in the write of a block the image has the log with the block exactly where the mask keeps each of the
 /// block's sectors, and else the log as before.
 pub fn stopped_blocks()
-    ensures { (image : Image) (s : StoreView) (b : Stored) (mask : ℕ) → IsCurrent image s → Follows s b → IsLogOf (stopped_image image s b mask) s.cut s.incarnation (log_where (keeps_block mask b) s b) }
+    ensures { (image : Image) (s : StoreView) (b : Stored) (mask : ℕ) → IsCurrent image s → Follows s b →
+        IsLogOf (stopped_image image s b mask) s.cut s.incarnation (log_where (keeps_block mask b) s b) }
 {}
 
 /// A worked example: the opening block, of one sector, on a disk of zeros. It is there exactly where the mask keeps sector 0.

@@ -101,7 +101,8 @@ pub(crate) fn raise<D: Disk>(
     requires incarnation { store.old.incarnation ≡ master.now.incarnation }
     requires small { master.now.incarnation + 1 < 2 ^ 64 }
     ensures short { length store.old.log.records < 2 ^ 64 }
-    ensures store { store.new ≡ record { log = cut_at (length store.old.log.records) store.old.log; cut = length store.old.log.records; incarnation = master.now.incarnation + 1; is_closed = store.old.is_closed } }
+    ensures store { store.new
+        ≡ record { log = cut_at (length store.old.log.records) store.old.log; cut = length store.old.log.records; incarnation = master.now.incarnation + 1; is_closed = store.old.is_closed } }
     ensures image { IfOk result (λ r. reads_of D.reads disk.new ≡ raised_so_far (reads_of D.reads disk.old) (raised_master master.now (length store.old.log.records)) r) }
     ensures settled { OnOk result (IsSettled D.keeps disk.old disk.new) }
     ensures durable { result ≡ Ok Reach.End → Only (reads_of D.reads disk.new) (holds_of D.keeps D.may_hold disk.new) }

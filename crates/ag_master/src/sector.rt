@@ -21,7 +21,11 @@ pub enum Loaded {
 
 /// The fields before the foreign pages.
 fn head(m: &Master) -> [u8; 56]
-    ensures { result ≡ letters ++ (to_be_bytes w16 m.now.format ++ (m.now.state ∷ 0 ∷ (to_be_bytes w64 m.now.incarnation ++ (to_be_bytes w64 m.now.term ++ (to_be_bytes w64 m.now.cut ++ (to_be_bytes w64 m.now.undo ++ (to_be_bytes w64 m.now.redo ++ (to_be_bytes w16 m.now.pages ++ (m.now.replica ∷ 0 ∷ []))))))))) }
+    ensures { result ≡ letters
+        ++ (to_be_bytes w16 m.now.format
+        ++ (m.now.state ∷ 0 ∷ (to_be_bytes w64 m.now.incarnation
+        ++ (to_be_bytes w64 m.now.term
+        ++ (to_be_bytes w64 m.now.cut ++ (to_be_bytes w64 m.now.undo ++ (to_be_bytes w64 m.now.redo ++ (to_be_bytes w16 m.now.pages ++ (m.now.replica ∷ 0 ∷ []))))))))) }
 {
     let mut bytes = [0; 56];
     bytes[..8].copy_from_slice(b"AGMASTER");

@@ -12,3 +12,4 @@ pub mod Suffixes
 pub mod Reaching
 pub mod Hardening
 pub mod Starting
+pub mod Parts

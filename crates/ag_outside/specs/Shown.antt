@@ -51,7 +51,8 @@ ToldAtSync keeps reads may_hold faults old new Device = Told keeps reads may_hol
 ToldAtSync keeps reads may_hold faults old new Inner = Told keeps reads may_hold faults old new [] Inner
 
 -- what a scripted disk promises of a write beside the model of a disk: it is kept back, unless the order is reached or the disk below fails
-pub record DidWrite {D : Type 0} (keeps : D → Bool) (reads : D → Image) (may_hold : D → ℕ → Content → Type 0) (faults : D → ℕ) (old : ScriptedView D) (first : ℕ) (sectors : List (List ℕ)) (result : Result (Unit {0}) DiskError) (new : ScriptedView D) : Type 0 where
+pub record DidWrite {D : Type 0} (keeps : D → Bool) (reads : D → Image) (may_hold : D → ℕ → Content → Type 0) (faults : D → ℕ) (old : ScriptedView D)
+    (first : ℕ) (sectors : List (List ℕ)) (result : Result (Unit {0}) DiskError) (new : ScriptedView D) : Type 0 where
   pub kept_back : OnOk result (new ≡ record old { unsynced = old.unsynced ++ writes first sectors; writes = new.writes; calls = new.calls })
   pub writes_counted : new.writes ≡ min (old.writes + 1) (2 ^ 64 - 1)
   pub calls_counted : new.calls ≡ min (old.calls + 1) (2 ^ 64 - 1)
@@ -62,7 +63,8 @@ pub record DidWrite {D : Type 0} (keeps : D → Bool) (reads : D → Image) (may
   pub keeps_same : keeps new.disk ≡ keeps old.disk
 
 -- the same of a read, which isn't counted and changes no sector
-pub record DidRead {D : Type 0} (keeps : D → Bool) (reads : D → Image) (may_hold : D → ℕ → Content → Type 0) (faults : D → ℕ) (old : ScriptedView D) (result : Result Found DiskError) (new : ScriptedView D) : Type 0 where
+pub record DidRead {D : Type 0} (keeps : D → Bool) (reads : D → Image) (may_hold : D → ℕ → Content → Type 0) (faults : D → ℕ)
+    (old : ScriptedView D) (result : Result Found DiskError) (new : ScriptedView D) : Type 0 where
   pub same : new ≡ record old { disk = new.disk; why = new.why; faults = new.faults }
   pub why : new.why ≡ old.why ⊎ (new.why ≡ Inner) × (result ≡ Err Failed)
   pub inner : IsErrOf result Failed → (new.why ≡ Inner) × HasRisen (faults old.disk) (faults new.disk)
@@ -71,7 +73,8 @@ pub record DidRead {D : Type 0} (keeps : D → Bool) (reads : D → Image) (may_
   pub reads_same : reads new.disk ≡ reads old.disk
 
 -- the same of a sync, which hands down what was kept back
-pub record DidSync {D : Type 0} (keeps : D → Bool) (reads : D → Image) (may_hold : D → ℕ → Content → Type 0) (faults : D → ℕ) (old : ScriptedView D) (result : Result (Unit {0}) DiskError) (new : ScriptedView D) : Type 0 where
+pub record DidSync {D : Type 0} (keeps : D → Bool) (reads : D → Image) (may_hold : D → ℕ → Content → Type 0) (faults : D → ℕ)
+    (old : ScriptedView D) (result : Result (Unit {0}) DiskError) (new : ScriptedView D) : Type 0 where
   pub handed_down : OnOk result (new.unsynced ≡ [])
   pub writes_counted : new.writes ≡ old.writes
   pub calls_counted : new.calls ≡ min (old.calls + 1) (2 ^ 64 - 1)
@@ -103,7 +106,8 @@ below : (b : Bool) (c : Content) (hold : Content → Type 0) → hold c → (x :
 below true c hold held x is = is
 below false c hold held x is = subst hold (sym is) held
 
-pub shown_one : (keeps : Bool) (hold : ℕ → Content → Type 0) (image : Image) (lost : List (ℕ × ℕ)) (ws : List SectorWrite) → IsTrue keeps → IsImage hold image → IsImage (may_show keeps hold lost ws) (shown image lost ws)
+pub shown_one : (keeps : Bool) (hold : ℕ → Content → Type 0) (image : Image) (lost : List (ℕ × ℕ)) (ws : List SectorWrite) → IsTrue keeps →
+    IsImage hold image → IsImage (may_show keeps hold lost ws) (shown image lost ws)
 shown_one keeps hold image lost ws k one at = (
   k,
   elim (was_or_wrote ws (overlay lost image) at) [

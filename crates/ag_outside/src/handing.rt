@@ -118,7 +118,8 @@ pub(crate) fn flush<D: Disk>(
     ensures durable_below { OnOk result (Only (D.reads disk.new) (D.may_hold disk.new)) }
     ensures spare { spare lost.old ≤ spare lost.new }
     ensures durable { OnOk result (Only (shown (D.reads disk.new) lost.new.entries []) (may_show (D.keeps disk.new) (D.may_hold disk.new) lost.new.entries [])) }
-    ensures crash { MayAdd [] (may_show (D.keeps disk.old) (D.may_hold disk.old) lost.old.entries unsynced.old.items) (may_show (D.keeps disk.new) (D.may_hold disk.new) lost.new.entries unsynced.new.items) }
+    ensures crash { MayAdd [] (may_show (D.keeps disk.old) (D.may_hold disk.old) lost.old.entries unsynced.old.items)
+        (may_show (D.keeps disk.new) (D.may_hold disk.new) lost.new.entries unsynced.new.items) }
     ensures cause { HasCause (D.faults disk.old) (D.faults disk.new) result }
     ensures size { D.size disk.new ≡ D.size disk.old }
     ensures keeps { D.keeps disk.new ≡ D.keeps disk.old }
@@ -185,7 +186,8 @@ pub(crate) fn lose<D: Disk>(
     ensures below { OnOk result (IsTrue (D.keeps disk.old) → D.reads disk.new ≡ put_all (D.reads disk.old) (unsynced.old.items ++ fillers first 18 count)) }
     ensures marks { OnOk result ((at : ℕ) → lookup (nat_eq at) lost.new.entries ≡ marked first 18 count at (unless_written unsynced.old.items at (lookup (nat_eq at) lost.old.entries))) }
     ensures durable { OnOk result (Only (shown (D.reads disk.new) lost.new.entries []) (may_show (D.keeps disk.new) (D.may_hold disk.new) lost.new.entries [])) }
-    ensures crash { OnErr result (MayAdd (fillers first 18 count) (may_show (D.keeps disk.old) (D.may_hold disk.old) lost.old.entries unsynced.old.items) (may_show (D.keeps disk.new) (D.may_hold disk.new) lost.new.entries unsynced.new.items)) }
+    ensures crash { OnErr result (MayAdd (fillers first 18 count) (may_show (D.keeps disk.old) (D.may_hold disk.old) lost.old.entries unsynced.old.items)
+        (may_show (D.keeps disk.new) (D.may_hold disk.new) lost.new.entries unsynced.new.items)) }
     ensures cause { HasCause (D.faults disk.old) (D.faults disk.new) result }
     ensures size { D.size disk.new ≡ D.size disk.old }
     ensures keeps { D.keeps disk.new ≡ D.keeps disk.old }

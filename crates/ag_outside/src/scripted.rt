@@ -1,5 +1,6 @@
 //! A disk that follows an order over another one.
-ghost use Rattle.std.specs.Prelude.{◌≡◌, ◌≢◌, ◌⊎◌, ◌-◌, ◌+◌, ◌<◌, ◌≤◌, ◌^◌, ◌++◌, ◌∷◌, [], ℕ, Bool, IsTrue, Some, None, true, false, length, min, nat_eq, OnOk, OnErr, IfOk, IfSome, IfNone, IsErr, IsErrOf};
+ghost use Rattle.std.specs.Prelude.{◌≡◌, ◌≢◌, ◌⊎◌, ◌-◌, ◌+◌, ◌<◌, ◌≤◌, ◌^◌, ◌++◌, ◌∷◌, [], ℕ, Bool, IsTrue, Some, None, true, false, length, min, nat_eq, OnOk, OnErr, IfOk, IfSome, IfNone};
+ghost use Rattle.std.specs.Prelude.{IsErr, IsErrOf};
 ghost use Rattle.ag_outside.specs.Calls.{Write_call, Read_call, Sync_call};
 ghost use Rattle.ag_outside.specs.Disks.{put, put_all, writes, MayAdd, SameImages, Only, IsImage, Elapses, HasCause};
 ghost use Rattle.ag_outside.specs.Counts.{HasRisen};
@@ -35,7 +36,17 @@ impl<D: Disk> Model for Scripted<D> {
 
     ghost Value = { ScriptedView D };
 
-    ghost view = { λ s. record { disk = s.disk; unsynced = s.unsynced.items; lost = s.lost.entries; order = s.order; writes = s.writes; calls = s.calls; why = s.why; faults = s.faults; intact = s.intact } };
+    ghost view = { λ s. record {
+      disk = s.disk;
+      unsynced = s.unsynced.items;
+      lost = s.lost.entries;
+      order = s.order;
+      writes = s.writes;
+      calls = s.calls;
+      why = s.why;
+      faults = s.faults;
+      intact = s.intact;
+    } };
 
     ghost invariant = { λ s. InRange (D.size s.disk) s.unsynced.items × (IsTrue s.intact → IsTrue (D.keeps s.disk) → LostAsWritten (D.reads s.disk) s.lost.entries) };
 }

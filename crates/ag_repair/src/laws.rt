@@ -9,6 +9,7 @@ ghost use Rattle.ag_repair.specs.Parts.{part_of_giving, part_of_arrival};
 
 /// What is given and taken in an event is what these calls answer; `full` says that the link to the asker is full.
 pub fn events_agree()
-    ensures give { (h : Here) (n : ℕ) (r : Replica) (full : Bool) (p lsn : ℕ) (primary : Bool) → page_ask_part h n r full r.term p lsn primary ≡ part_of_giving (giving_of (is_bad r p) r.state (not r.leads) primary (applied_of r p) lsn) h n r full p }
+    ensures give { (h : Here) (n : ℕ) (r : Replica) (full : Bool) (p lsn : ℕ) (primary : Bool) →
+        page_ask_part h n r full r.term p lsn primary ≡ part_of_giving (giving_of (is_bad r p) r.state (not r.leads) primary (applied_of r p) lsn) h n r full p }
     ensures arrive { (r : Replica) (p lsn : ℕ) → page_give_part r r.term p lsn ≡ part_of_arrival (arrival_of (is_wanted r p) r.state (applied_of r p) lsn) r p lsn }
 {}

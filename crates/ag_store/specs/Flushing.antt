@@ -24,9 +24,12 @@ use Rattle.ag_store.specs.Standing.{told_on}
 -- image, which says its value. Each other one has the image that it had, and each sector outside of the dirty ones what it had.
 pub record WrotePages {D : Type 0} (keeps : D → Bool) (reads : D → Image) (old new : ScriptedView D) (before after : PagesView) : Type 0 where
   pub clean : (page : ℕ) → is_page before page ≡ true → is_dirty after page ≡ false
-  pub known : (page : ℕ) → is_page before page ≡ true → known_of (told_images (keeps new.disk) (reads_of reads new)) after page ≡ known_of (told_images (keeps old.disk) (reads_of reads old)) before page
-  pub cells : (page : ℕ) → is_page before page ≡ true → page_cells (reads_of reads new) page ≡ (if is_dirty before page then written_cells (page_cells (reads_of reads old) page) else page_cells (reads_of reads old) page)
-  pub images : (page : ℕ) (w : PageValue) → is_page before page ≡ true → is_dirty before page ≡ true → known_of (told_images (keeps old.disk) (reads_of reads old)) before page ≡ Value w → w.page ≡ page → IsInRange w
+  pub known : (page : ℕ) → is_page before page ≡ true → known_of (told_images (keeps new.disk) (reads_of reads new)) after page
+      ≡ known_of (told_images (keeps old.disk) (reads_of reads old)) before page
+  pub cells : (page : ℕ) → is_page before page ≡ true →
+      page_cells (reads_of reads new) page ≡ (if is_dirty before page then written_cells (page_cells (reads_of reads old) page) else page_cells (reads_of reads old) page)
+  pub images : (page : ℕ) (w : PageValue) → is_page before page ≡ true → is_dirty before page ≡ true →
+      known_of (told_images (keeps old.disk) (reads_of reads old)) before page ≡ Value w → w.page ≡ page → IsInRange w
       → in_home (Some (image_of (reads_of reads new))) page ≡ Value w
   pub other_images : (page : ℕ) → is_page before page ≡ true → is_dirty before page ≡ false → image_of (reads_of reads new) page ≡ image_of (reads_of reads old) page
   pub others : (at : ℕ) → ((page : ℕ) → is_page before page ≡ true → is_dirty before page ≡ true → IsOutside page at) → reads_of reads new at ≡ reads_of reads old at
@@ -41,12 +44,14 @@ abbrev pub HaveImages : Image → PagesView → Type 0
 HaveImages image v = (page : ℕ) → is_page v page ≡ true → HasNoImage (known_of (told_on image) v page) → ⊥
 
 -- the disk took the batches of dirty pages first, and then its master with this redo start, which left its log and its pages as they were
-pub record PagesThenMaster {D : Type 0} (size : D → ℕ) (keeps : D → Bool) (reads : D → Image) (may_hold : D → ℕ → Content → Type 0) (faults : D → ℕ) (old : ScriptedView D) (before : PagesView) (redo : ℕ) (after : PagesView) (new : ScriptedView D) : Type 0 where
+pub record PagesThenMaster {D : Type 0} (size : D → ℕ) (keeps : D → Bool) (reads : D → Image) (may_hold : D → ℕ → Content → Type 0) (faults : D → ℕ)
+    (old : ScriptedView D) (before : PagesView) (redo : ℕ) (after : PagesView) (new : ScriptedView D) : Type 0 where
   pub between : ScriptedView D
   pub pages : TakesPages size keeps reads may_hold faults old (batches before) between
   pub wrote : WrotePages keeps reads old between before after
   pub written_home : IsAtHome keeps reads between
-  pub durable : (((page : ℕ) → is_page before page ≡ true → is_dirty before page ≡ false) → Only (reads_of reads old) (holds_of keeps may_hold old)) → Only (reads_of reads between) (holds_of keeps may_hold between)
+  pub durable : (((page : ℕ) → is_page before page ≡ true → is_dirty before page ≡ false) → Only (reads_of reads old) (holds_of keeps may_hold old)) →
+      Only (reads_of reads between) (holds_of keeps may_hold between)
   pub master : SavesMaster keeps reads may_hold faults between (record (master_on (reads_of reads between)) { redo = redo }) new
   pub home : IsAtHome keeps reads new
   pub kept : (loaded : Bool) → kept_on (reads_of reads new) loaded ≡ record (kept_on (reads_of reads between) loaded) { redo = redo }

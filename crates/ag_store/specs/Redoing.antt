@@ -34,7 +34,8 @@ pub record AreRedoneBelow (image : Image) (log : Log) (below : ℕ) (old new : P
   pub sixteen : length new.applied ≡ length old.applied
   pub applied : (stripe : ℕ) → stripe < below → applied_of new stripe ≡ end_of log
   pub values : (page : ℕ) → IsDataPage old.count page → stripe_of page < below → known_of (told_on image) new page ≡ Value (value old.count log.records (end_of log) page)
-  pub dirty : (page : ℕ) → IsDataPage old.count page → stripe_of page < below → is_dirty new page ≡ (is_dirty old page || is_touched_between old.count log.records page (applied_of old (stripe_of page)) (end_of log))
+  pub dirty : (page : ℕ) → IsDataPage old.count page → stripe_of page < below →
+      is_dirty new page ≡ (is_dirty old page || is_touched_between old.count log.records page (applied_of old (stripe_of page)) (end_of log))
   pub others_applied : (stripe : ℕ) → below ≤ stripe → applied_of new stripe ≡ applied_of old stripe
   pub others : (page : ℕ) → below ≤ stripe_of page → known_of (told_on image) new page ≡ known_of (told_on image) old page
   pub others_dirty : (page : ℕ) → below ≤ stripe_of page → is_dirty new page ≡ is_dirty old page

@@ -51,7 +51,8 @@ AreImages pages image kept applied dirty = (page : ℕ) → IsDataPage pages pag
     → IsImageOf pages kept.log kept.redo (get_or applied (stripe_of page) 0) (get_or dirty (page - 16) false) page (in_home (told_on image) page)
 
 -- the disk is that of a replica with so many pages, whose log is proper and whose images are those of its pages, unless a fault came
-pub record IsStore {D : Type 0} (size : D → ℕ) (keeps : D → Bool) (reads : D → Image) (may_hold : D → ℕ → Content → Type 0) (disk : ScriptedView D) (pages : ℕ) (memory : Option MemoryView) (sound : Bool) : Type 0 where
+pub record IsStore {D : Type 0} (size : D → ℕ) (keeps : D → Bool) (reads : D → Image) (may_hold : D → ℕ → Content → Type 0)
+    (disk : ScriptedView D) (pages : ℕ) (memory : Option MemoryView) (sound : Bool) : Type 0 where
   pub room : log_end ≤ size disk.disk
   pub low : 16 ≤ pages
   pub high : pages ≤ 2048

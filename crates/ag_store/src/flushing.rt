@@ -32,7 +32,8 @@ fn write_pages<D: Disk>(disk: &mut Scripted<D>, pages: &mut Pages) -> Result<(),
     ensures home { OnOk result (IsAtHome D.keeps D.reads disk.new) }
     ensures wrote { OnOk result (WrotePages D.keeps D.reads disk.old disk.new pages.old pages.new) }
     ensures calls { OnOk result (TakesPages D.size D.keeps D.reads D.may_hold D.faults disk.old (batches pages.old) disk.new) }
-    ensures durable { OnOk result ((((page : ℕ) → is_page pages.old page ≡ true → is_dirty pages.old page ≡ false) → Only (reads_of D.reads disk.old) (holds_of D.keeps D.may_hold disk.old)) → Only (reads_of D.reads disk.new) (holds_of D.keeps D.may_hold disk.new)) }
+    ensures durable { OnOk result ((((page : ℕ) → is_page pages.old page ≡ true → is_dirty pages.old page ≡ false) → Only (reads_of D.reads disk.old) (holds_of D.keeps D.may_hold disk.old)) →
+        Only (reads_of D.reads disk.new) (holds_of D.keeps D.may_hold disk.new)) }
     ensures count { pages.new.count ≡ pages.old.count }
     ensures applied { pages.new.applied ≡ pages.old.applied }
     ensures later { OnOk result (D.faults disk.old.disk ≤ D.faults disk.new.disk) }

@@ -40,7 +40,8 @@ fn row_by<D: Disk>(
     requires place { log_end ≤ D.size disk.old.disk }
     requires home { IsAtHome D.keeps D.reads disk.old }
     requires known { (v : PageValueOf) × (known_of (told_on (reads_of D.reads disk.old)) pages.old (page_of pages.old.count key) ≡ Value v) }
-    ensures row { IfOk result (λ row. (v : PageValueOf) → known_of (told_on (reads_of D.reads disk.old)) pages.old (page_of pages.old.count key) ≡ Value v → (v.horizon ≤ snapshot) × (row ≡ pick v key snapshot)) }
+    ensures row { IfOk result (λ row. (v : PageValueOf) → known_of (told_on (reads_of D.reads disk.old)) pages.old (page_of pages.old.count key) ≡ Value v →
+        (v.horizon ≤ snapshot) × (row ≡ pick v key snapshot)) }
     ensures too_old { IfErr result (λ e. (v : PageValueOf) → known_of (told_on (reads_of D.reads disk.old)) pages.old (page_of pages.old.count key) ≡ Value v → IsTooOldBy snapshot v.horizon e) }
     ensures pages { OnlyReadsIn (told_on (reads_of D.reads disk.old)) pages.old pages.new }
     ensures disk { ShowsSame D.keeps D.reads D.may_hold disk.old disk.new }
@@ -122,8 +123,10 @@ impl<D: Disk> Store<D> {
         requires up { self.old.kept.loaded ≡ true }
         requires redone { snapshot ≤ get_or self.old.applied (stripe_of (page_of self.old.pages key)) 0 }
         ensures row { IfOk result (λ row. row ≡ rows self.old.kept.log.records snapshot key) }
-        ensures young { OnOk result ((value self.old.pages self.old.kept.log.records (get_or self.old.applied (stripe_of (page_of self.old.pages key)) 0) (page_of self.old.pages key)).horizon ≤ snapshot) }
-        ensures too_old { IfErr result (λ e. IsTooOldBy snapshot (value self.old.pages self.old.kept.log.records (get_or self.old.applied (stripe_of (page_of self.old.pages key)) 0) (page_of self.old.pages key)).horizon e) }
+        ensures young { OnOk result (
+            (value self.old.pages self.old.kept.log.records (get_or self.old.applied (stripe_of (page_of self.old.pages key)) 0) (page_of self.old.pages key)).horizon ≤ snapshot) }
+        ensures too_old { IfErr result (λ e. IsTooOldBy snapshot
+            (value self.old.pages self.old.kept.log.records (get_or self.old.applied (stripe_of (page_of self.old.pages key)) 0) (page_of self.old.pages key)).horizon e) }
         ensures store { self.new ≡ record self.old { sound = self.new.sound; faults = self.new.faults } }
         ensures sound { OnOk result (self.new.sound ≡ true) }
         ensures left { IfErr result (LeavesSound self.new.sound) }

@@ -48,7 +48,8 @@ pub(crate) fn redo_stripe<D: Disk>(
     requires end { IsBlockEnd log.now end }
     requires within { end ≤ end_of log.now }
     requires from { applied_of pages.old stripe ≤ end }
-    requires ahead { (page : ℕ) → is_of pages.old stripe page ≡ true → IsAhead pages.old.count (cut_at end log.now) (applied_of pages.old stripe) page (known_of (told_on (reads_of D.reads disk.old)) pages.old page) }
+    requires ahead { (page : ℕ) → is_of pages.old stripe page ≡ true →
+        IsAhead pages.old.count (cut_at end log.now) (applied_of pages.old stripe) page (known_of (told_on (reads_of D.reads disk.old)) pages.old page) }
     ensures pages { OnOk result (IsRedone (reads_of D.reads disk.old) log.now stripe end pages.old pages.new) }
     ensures disk { OnOk result (ShowsSame D.keeps D.reads D.may_hold disk.old disk.new) }
     ensures later { D.faults disk.old.disk ≤ D.faults disk.new.disk }
@@ -80,7 +81,8 @@ pub(crate) fn redo_to_end<D: Disk>(
     requires proper { IsProper pages.old.count log.now }
     requires sixteen { length pages.old.applied ≡ 16 }
     requires within { (stripe : ℕ) → stripe < 16 → applied_of pages.old stripe ≤ end_of log.now }
-    requires ahead { (page : ℕ) → IsDataPage pages.old.count page → IsAhead pages.old.count log.now (applied_of pages.old (stripe_of page)) page (known_of (told_on (reads_of D.reads disk.old)) pages.old page) }
+    requires ahead { (page : ℕ) → IsDataPage pages.old.count page →
+        IsAhead pages.old.count log.now (applied_of pages.old (stripe_of page)) page (known_of (told_on (reads_of D.reads disk.old)) pages.old page) }
     ensures lsn { IfOk result (λ lsn. lsn ≡ end_of log.now) }
     ensures pages { OnOk result (AreRedone (reads_of D.reads disk.old) log.now pages.old pages.new) }
     ensures disk { OnOk result (ShowsSame D.keeps D.reads D.may_hold disk.old disk.new) }

@@ -34,7 +34,8 @@ fn load_pages<D: Disk>(
     requires redo { redo ≡ (kept_on (reads_of D.reads disk.old) true).redo }
     requires log { IsMemory D.keeps D.reads D.may_hold disk.old log }
     ensures store { IfOk result (λ m. IsStore D.size D.keeps D.reads D.may_hold disk.new pages (Some m) true) }
-    ensures view { IfOk result (λ m. store_on (reads_of D.reads disk.new) pages (Some m) true 0 ≡ caught_up (record (store_on (reads_of D.reads disk.old) pages None true 0) { kept = kept_on (reads_of D.reads disk.old) true })) }
+    ensures view { IfOk result (λ m. store_on (reads_of D.reads disk.new) pages (Some m) true 0
+        ≡ caught_up (record (store_on (reads_of D.reads disk.old) pages None true 0) { kept = kept_on (reads_of D.reads disk.old) true })) }
     ensures later { OnOk result (D.faults disk.old.disk ≤ D.faults disk.new.disk) }
     ensures fault { IsErrOf result KeptFault.DiskFault → HasRisen (D.faults disk.old.disk) (D.faults disk.new.disk) }
     ensures size { D.size disk.new.disk ≡ D.size disk.old.disk }

@@ -2,7 +2,10 @@
 use Rattle.std.specs.Prelude.{ℕ, List, ◌++◌, codes}
 use Rattle.std.specs.Fmt.{decimal}
 use Rattle.ag_model.specs.declared.answer.Answer.{Answer}
-use Rattle.ag_model.specs.declared.answer.Answer.TheVariants.{Txn, OwnRow, OwnAbsent, Lsn, Ended, Hardened, SyncAt, LocalAt, Sent, Lost, Applied, Raised, Front, Row, Absent, Snap, Closed, Reported, Flushed, Crashed, Started, Spoiled, Asked, Suspects, PageBad, Page, Sectors, Status, Cut, Mended, Joined, Resumed, Synchronised, TimedOut, Primary, Reverted, Hello, State, Known, Refused, Gave, Installed, Holding, NoPage, Stopped, DeviceFailed, No}
+use Rattle.ag_model.specs.declared.answer.Answer.TheVariants.{Txn, OwnRow, OwnAbsent, Lsn, Ended, Hardened, SyncAt, LocalAt, Sent, Lost, Applied, Raised, Front, Row, Absent, Snap, Closed}
+use Rattle.ag_model.specs.declared.answer.Answer.TheVariants.{Reported, Flushed, Crashed, Started, Spoiled, Asked, Suspects, PageBad, Page, Sectors, Status, Cut, Mended, Joined, Resumed}
+use Rattle.ag_model.specs.declared.answer.Answer.TheVariants.{Synchronised, TimedOut, Primary, Reverted, Hello, State, Known, Refused, Gave, Installed, Holding, NoPage, Stopped}
+use Rattle.ag_model.specs.declared.answer.Answer.TheVariants.{DeviceFailed, No}
 use Rattle.ag_transcript.specs.Words.{node_text, value_text, list_text, role_text, cell_text, version_text, suspect_text}
 use Rattle.ag_transcript.specs.Refusals.{refusal_text}
 

@@ -2,7 +2,9 @@
 use Rattle.std.specs.Prelude.{ℕ, List, ◌++◌, codes}
 use Rattle.std.specs.Fmt.{decimal}
 use Rattle.ag_model.specs.declared.answer.Refusal.{Refusal}
-use Rattle.ag_model.specs.declared.answer.Refusal.TheVariants.{Down, NotPrimary, NotSecondary, NotReadable, WrongState, CutOff, Suspended, NotConnected, NoTxn, NoMessage, LinkFull, Locked, Conflict, PageFull, BufferFull, LogFull, Held, NotYet, Behind, OldTerm, TooOld, Unreadable, Torn, Pending, NotNoted, Gap, Wait, NotUndone, NotSynchronised, NoTarget, Unhardened, Spent, Nothing}
+use Rattle.ag_model.specs.declared.answer.Refusal.TheVariants.{Down, NotPrimary, NotSecondary, NotReadable, WrongState, CutOff, Suspended, NotConnected, NoTxn, NoMessage, LinkFull, Locked}
+use Rattle.ag_model.specs.declared.answer.Refusal.TheVariants.{Conflict, PageFull, BufferFull, LogFull, Held, NotYet, Behind, OldTerm, TooOld, Unreadable, Torn, Pending, NotNoted, Gap, Wait}
+use Rattle.ag_model.specs.declared.answer.Refusal.TheVariants.{NotUndone, NotSynchronised, NoTarget, Unhardened, Spent, Nothing}
 use Rattle.ag_transcript.specs.Words.{node_text}
 
 -- what stands after `no `

@@ -95,7 +95,8 @@ impl<D: Disk> Home<D> {
         requires redone { snapshot ≤ get_or self.old.applied (stripe_of (page_of self.old.pages key)) 0 }
         ensures row { IfOk result (λ row. row ≡ rows self.old.log.records snapshot key) }
         ensures young { OnOk result ((value self.old.pages self.old.log.records (get_or self.old.applied (stripe_of (page_of self.old.pages key)) 0) (page_of self.old.pages key)).horizon ≤ snapshot) }
-        ensures too_old { IfErr result (λ e. IsTooOldBy snapshot (value self.old.pages self.old.log.records (get_or self.old.applied (stripe_of (page_of self.old.pages key)) 0) (page_of self.old.pages key)).horizon e) }
+        ensures too_old { IfErr result (λ e. IsTooOldBy snapshot
+            (value self.old.pages self.old.log.records (get_or self.old.applied (stripe_of (page_of self.old.pages key)) 0) (page_of self.old.pages key)).horizon e) }
         ensures home { OnOk result (self.new ≡ but_faults self.old self.new.faults) }
         ensures left { IfErr result (λ e. LeavesHome self.old self.new e) }
         ensures fault { result ≡ Err (Gave DiskFailed) → HasRisen self.old.faults self.new.faults }

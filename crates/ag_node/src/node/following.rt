@@ -23,6 +23,7 @@ ghost use Rattle.ag_record.specs.Spelling.{ArePayload};
 ghost use Rattle.ag_wire.specs.Spelling.{IsBlock};
 ghost use Rattle.ag_node.specs.Out.{posting_of};
 ghost use Rattle.ag_node.specs.Sites.{here_at};
+ghost use Rattle.ag_node.specs.Parts.{applies_next};
 ghost use Rattle.ag_node.specs.Suffixes.{cut_part};
 ghost use Rattle.ag_node.specs.Hardening.{hardens_block};
 ghost use Rattle.ag_node.specs.Nodes.{IsRefusedBy};
@@ -120,8 +121,8 @@ impl<D: Disk> Node<D> {
         requires stripe { x < 16 }
         requires follows { self.old.replica.leads ≡ false }
         ensures lsn { IfOk result (λ lsn. lsn ≡ next_of_stripe self.old.replica x) }
-        ensures after { OnOk result (self.new.replica ≡ (applies_touching pages self.old.replica x (next_of_stripe self.old.replica x) (touched_in_stripe pages self.old.replica x (next_of_stripe self.old.replica x))).after) }
-        ensures writes { OnOk result ((applies_touching pages self.old.replica x (next_of_stripe self.old.replica x) (touched_in_stripe pages self.old.replica x (next_of_stripe self.old.replica x))).writes ≡ []) }
+        ensures after { OnOk result (self.new.replica ≡ (applies_next pages self.old.replica x).after) }
+        ensures writes { OnOk result ((applies_next pages self.old.replica x).writes ≡ []) }
         ensures pages { length self.new.replica.pages ≡ length self.old.replica.pages }
         ensures fault { IsErrOf result NodeFault.DiskFault → HasRisen self.old.faults self.new.faults }
     {
@@ -248,10 +249,13 @@ impl<D: Disk> Node<D> {
         requires fits { IsBlock block.now }
         requires whole { IsWhole block.now.records }
         requires proper { IsProper site.now.pages (block_part (here_at site.now) from self.old.replica full term block.now).after.kept.log }
-        ensures answer { IfOk result (λ x. x.0 ≡ (cut_part site.now.pages site.now.number suffix.now self.old.replica (block_part (here_at site.now) from self.old.replica full term block.now)).answer) }
-        ensures out { IfOk result (λ x. posting_of from x.1 ≡ (cut_part site.now.pages site.now.number suffix.now self.old.replica (block_part (here_at site.now) from self.old.replica full term block.now)).out) }
+        ensures answer { IfOk result (λ x. x.0
+            ≡ (cut_part site.now.pages site.now.number suffix.now self.old.replica (block_part (here_at site.now) from self.old.replica full term block.now)).answer) }
+        ensures out { IfOk result (λ x. posting_of from x.1
+            ≡ (cut_part site.now.pages site.now.number suffix.now self.old.replica (block_part (here_at site.now) from self.old.replica full term block.now)).out) }
         ensures built { IfOk result (λ x. IfSome x.1 IsBuiltMessage) }
-        ensures after { OnOk result (self.new.replica ≡ (cut_part site.now.pages site.now.number suffix.now self.old.replica (block_part (here_at site.now) from self.old.replica full term block.now)).after) }
+        ensures after { OnOk result (self.new.replica
+            ≡ (cut_part site.now.pages site.now.number suffix.now self.old.replica (block_part (here_at site.now) from self.old.replica full term block.now)).after) }
         ensures leaves { IfOk result (λ x. leaves x.0 ≡ leaves (block_part (here_at site.now) from self.old.replica full term block.now).answer) }
         ensures pages { length self.new.replica.pages ≡ length self.old.replica.pages }
         ensures fault { IsErrOf result NodeFault.DiskFault → HasRisen self.old.faults self.new.faults }
@@ -281,7 +285,8 @@ impl<D: Disk> Node<D> {
         term: u64,
         block: &Block,
     ) -> Result<Option<(Answer, Option<Message>)>, NoMemory>
-        ensures part { IfOk result (λ told. MatchOption told (block_part (here_at site.now) from self.now.replica full term block.now ≡ hardens_block from self.now.replica block.now) (λ x. block_part (here_at site.now) from self.now.replica full term block.now ≡ sending x.0 (posting_of from x.1) self.now.replica)) }
+        ensures part { IfOk result (λ told. MatchOption told (block_part (here_at site.now) from self.now.replica full term block.now
+            ≡ hardens_block from self.now.replica block.now) (λ x. block_part (here_at site.now) from self.now.replica full term block.now ≡ sending x.0 (posting_of from x.1) self.now.replica)) }
         ensures built { IfOk result (λ told. IfSome told (λ x. IfSome x.1 IsBuiltMessage)) }
         ensures follows { IfOk result (λ told. IfNone told (self.now.replica.leads ≡ false)) }
         ensures state { IfOk result (λ told. IfNone told ((self.now.replica.state == 1) ≡ true)) }

@@ -16,6 +16,7 @@ ghost use Rattle.ag_built.specs.Built.{IsBuiltMessage, IsPair};
 ghost use Rattle.ag_built.specs.Whole.{IsWhole};
 ghost use Rattle.ag_node.specs.Out.{posting_of};
 ghost use Rattle.ag_node.specs.Sites.{here_at};
+ghost use Rattle.ag_node.specs.Parts.{pairs_set};
 ghost use Rattle.ag_node.specs.Suffixes.{cut_part};
 ghost use Rattle.ag_node.specs.Reaching.{part_reached};
 ghost use Rattle.ag_outside.specs.Counts.{HasRisen};
@@ -95,9 +96,9 @@ impl<D: Disk> Node<D> {
         requires some { 1 ≤ length pairs.now }
         requires few { length pairs.now ≤ 8 }
         requires values { AllByRecursion IsPair pairs.now }
-        ensures answer { IfOk result (λ a. a ≡ (pairs_pass (here_at site.now) self.old.replica (self.old.replica.leading.last_txn + 1) [] pairs.now (sets self.old.replica (records_of_set site.now.pages (self.old.replica.leading.last_txn + 1) pairs.now))).answer) }
-        ensures writes { OnOk result ((pairs_pass (here_at site.now) self.old.replica (self.old.replica.leading.last_txn + 1) [] pairs.now (sets self.old.replica (records_of_set site.now.pages (self.old.replica.leading.last_txn + 1) pairs.now))).writes ≡ []) }
-        ensures after { OnOk result (self.new.replica ≡ (pairs_pass (here_at site.now) self.old.replica (self.old.replica.leading.last_txn + 1) [] pairs.now (sets self.old.replica (records_of_set site.now.pages (self.old.replica.leading.last_txn + 1) pairs.now))).after) }
+        ensures answer { IfOk result (λ a. a ≡ (pairs_set site.now.pages (here_at site.now) self.old.replica pairs.now).answer) }
+        ensures writes { OnOk result ((pairs_set site.now.pages (here_at site.now) self.old.replica pairs.now).writes ≡ []) }
+        ensures after { OnOk result (self.new.replica ≡ (pairs_set site.now.pages (here_at site.now) self.old.replica pairs.now).after) }
         ensures pages { length self.new.replica.pages ≡ length self.old.replica.pages }
         ensures faults { self.new.faults ≡ self.old.faults }
     {
@@ -149,7 +150,9 @@ impl<D: Disk> Node<D> {
     /// Why the buffer isn't hardened, if it isn't.
     #[tactic(auto, unfolding(ag_rules::specs::HardenEvent::harden_part))]
     fn harden_refusal(&self, site: &Site) -> Result<Option<Refusal>, NoMemory>
-        ensures part { IfOk result (λ w. MatchOption w (harden_part (here_at site.now) self.now.replica ≡ hardens site.now.pages self.now.replica (due_pages site.now.pages (hardened_one site.now.pages self.now.replica))) (λ why. harden_part (here_at site.now) self.now.replica ≡ refused why self.now.replica)) }
+        ensures part { IfOk result (λ w. MatchOption w (harden_part (here_at site.now) self.now.replica
+            ≡ hardens site.now.pages self.now.replica (due_pages site.now.pages (hardened_one site.now.pages self.now.replica))) (λ why. harden_part (here_at site.now) self.now.replica
+            ≡ refused why self.now.replica)) }
         ensures up { IfOk result (λ w. IfNone w (self.now.replica.up ≡ true)) }
         ensures leads { IfOk result (λ w. IfNone w (self.now.replica.leads ≡ true)) }
         ensures room { IfOk result (λ w. IfNone w (block_sectors self.now.replica.leading.buffer ≤ free_sectors self.now.replica.kept.log)) }
@@ -199,7 +202,8 @@ impl<D: Disk> Node<D> {
         requires room { block_sectors self.old.replica.leading.buffer ≤ free_sectors self.old.replica.kept.log }
         requires proper { IsProper pages (with_block self.old.replica.kept.log self.old.replica.leading.buffer) }
         ensures reach { IfOk result (λ r. r ≡ how_far suffix.now (block_sectors self.old.replica.leading.buffer) 2) }
-        ensures after { IfOk result (λ r. self.new.replica ≡ (part_reached 0 self.old.replica (hardens pages self.old.replica (due_pages pages (hardened_one pages self.old.replica))) (Block_write self.old.replica.leading.buffer) r).after) }
+        ensures after { IfOk result (λ r. self.new.replica
+            ≡ (part_reached 0 self.old.replica (hardens pages self.old.replica (due_pages pages (hardened_one pages self.old.replica))) (Block_write self.old.replica.leading.buffer) r).after) }
         ensures pages { length self.new.replica.pages ≡ length self.old.replica.pages }
         ensures fault { IsErrOf result NodeFault.DiskFault → HasRisen self.old.faults self.new.faults }
     {

@@ -105,7 +105,8 @@ impl<D: Disk> Node<D> {
         ensures can { IfOk result (λ w. IfNone w (CanStart self.old.replica)) }
         ensures roles { IfOk result (λ w. IfNone w ((self.old.replica.leads ≡ false) × ((self.old.replica.state == 1) ≡ false))) }
         ensures few { IfOk result (λ w. IfNone w (self.old.replica.kept.master.incarnation < 9223372036854775808)) }
-        ensures writes { IfOk result (λ w. IfNone w ((start_part (here_among site.now modes.now) self.old.replica).writes ≡ [] ∷ (Master_write (started_master self.old.replica) (end self.old.replica) ∷ []) ∷ [])) }
+        ensures writes { IfOk result (λ w. IfNone w ((start_part (here_among site.now modes.now) self.old.replica).writes ≡ []
+            ∷ (Master_write (started_master self.old.replica) (end self.old.replica) ∷ []) ∷ [])) }
         ensures left { OnOk result (self.new.replica ≡ self.old.replica) }
         ensures pages { length self.new.replica.pages ≡ length self.old.replica.pages }
         ensures later { OnOk result (self.old.faults ≤ self.new.faults) }
