@@ -16,16 +16,7 @@ use crate::places::{put_in, take_out};
 use ag_model::value::{PageValue, Row};
 use ag_outside::disk::Disk;
 use ag_page::Image;
-use ag_stripe::StripeFault;
-
-/// The page of a key, where there are so many data pages.
-fn page_of(pages: u16, key: u32) -> u16
-    requires low { 16 ≤ pages }
-    requires high { pages ≤ 2048 }
-    ensures { result ≡ page_of pages key }
-{
-    16 + (key % u32::from(pages)) as u16
-}
+use ag_stripe::{StripeFault, page_of};
 
 impl Pages {
     /// The row of a key at a snapshot, an LSN. TooOld says that the snapshot is below the horizon of the key's page.
