@@ -1,0 +1,3 @@
+mod Pages
+mod Logs
+mod Scripts
