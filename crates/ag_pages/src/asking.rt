@@ -17,11 +17,7 @@ use ag_model::page::page_of;
 use ag_model::value::{PageValue, Row};
 use ag_outside::disk::Disk;
 use ag_page::Image;
-<<<<<<< HEAD
 use ag_stripe::StripeFault;
-=======
-use ag_stripe::{StripeFault, page_of};
->>>>>>> 3109dfd31b5aacc0bfe4fb8d32ebec3c7e7af71a
 
 impl Pages {
     /// The row of a key at a snapshot, an LSN. TooOld says that the snapshot is below the horizon of the key's page.
