@@ -8,7 +8,8 @@ use ag_model::message::Block;
 use ag_model::record::{Record, RecordList};
 use ag_model::value::{PageValue, Row};
 use ag_pagestore::{PageStore, PageWrite};
-use ag_stripe::{Away, Stripe, StripeFault, page_of};
+use ag_model::page::page_of;
+use ag_stripe::{Away, Stripe, StripeFault};
 use std::alloc::{AllocError, Global};
 use std::io;
 
