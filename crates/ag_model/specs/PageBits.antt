@@ -37,7 +37,16 @@ contains-pages_where p x low high =
 -- a byte by its bits
 by_bits : (b : ℕ) → b < 256 → sum_by (λ k. bit_at b k * 2 ^ k) (range_with_len 0 8) ≡ b
 by_bits b h =
-    omega (arith, div-div-eq-div-mul b 2 2, div-div-eq-div-mul b 4 2, div-div-eq-div-mul b 8 2, div-div-eq-div-mul b 16 2, div-div-eq-div-mul b 32 2, div-div-eq-div-mul b 64 2, div-div-eq-div-mul b 128 2)
+    omega (
+      arith,
+      div-div-eq-div-mul b 2 2,
+      div-div-eq-div-mul b 4 2,
+      div-div-eq-div-mul b 8 2,
+      div-div-eq-div-mul b 16 2,
+      div-div-eq-div-mul b 32 2,
+      div-div-eq-div-mul b 64 2,
+      div-div-eq-div-mul b 128 2,
+    )
 
 -- what agrees on a run of numbers has the same sum over it
 fold-agrees : (f g : ℕ → ℕ) (sum a n : ℕ) → ((x : ℕ) → x < a + n → f x ≡ g x) → fold (λ s x. s + f x) sum (range_with_len a n) ≡ fold (λ s x. s + g x) sum (range_with_len a n)

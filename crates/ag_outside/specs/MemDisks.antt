@@ -12,7 +12,7 @@ use Rattle.ag_outside.specs.declared.disk.DiskError.TheVariants.{Failed}
 use Rattle.ag_outside.specs.declared.mem_disk.Change.{Change}
 use Rattle.ag_outside.specs.declared.mem_disk.Change.TheVariants.{Wrote, Synced}
 use Rattle.ag_outside.specs.declared.mem_disk.MemDisk.{MemDisk}
-use Rattle.ag_outside.specs.Disks.{Content, Image, or_zeros, put, WroteSo, IsImage}
+use Rattle.ag_outside.specs.Disks.{Elapses, Content, Image, or_zeros, put, WroteSo, IsImage}
 use Rattle.ag_outside.specs.Calls.{Call, Write_call, Read_call, Sync_call}
 
 -- the sectors that were written
@@ -83,6 +83,12 @@ mem_did old (Write_call first sectors result) new = MemDid old result new
 mem_did old (Read_call at result) new = MemDid old result new
 mem_did old (Sync_call result) new = MemDid old result new
 
+-- the moments of a call on a disk in memory
+abbrev pub MemElapses : MemDisk → MemDisk → Type 0
+MemElapses old new =
+    Elapses (mem_traced old) (length (mem_changes old)) (length (mem_changes new)) (left_by (mem_reads old) (mem_changes old))
+    (left_by (mem_reads new) (mem_changes new)) (held (mem_reads new) (mem_changes new))
+
 -- zeros everywhere
 abbrev pub image_of_zeros : Image
 image_of_zeros at = Some (replicate 512 0)
@@ -91,8 +97,13 @@ image_of_zeros at = Some (replicate 512 0)
 pub now_left : (image : Image) (past : List Change) (t : ℕ) (left : Image) → t ≤ length past → IsImage (held image past) left → left_by image past t left
 now_left image past t left le is =
     let none : drop (length past) past ≡ [] = drop_all (length past) past (le_refl (length past)) in
-    let whole : take (length past) past ≡ past = take_all (length past) past (le_refl (length past)) in
-    (length past, le, le_refl (length past), subst (λ (cs : List Change). IsImage (held (undo cs image) (take (length past) past)) left) (sym none) (subst (λ (cs : List Change). IsImage (held image cs) left) (sym whole) is))
+    let whole : take (length past) past ≡ past = take_all (length past) past (le_refl (length past)) in (
+      length past,
+      le,
+      le_refl (length past),
+      subst (λ (cs : List Change). IsImage (held (undo cs image) (take (length past) past)) left) (sym none)
+          (subst (λ (cs : List Change). IsImage (held image cs) left) (sym whole) is),
+    )
 
 -- and nothing else since then
 pub left_now : (image : Image) (past : List Change) (left : Image) → left_by image past (length past) left → IsImage (held image past) left

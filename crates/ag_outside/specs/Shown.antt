@@ -37,7 +37,8 @@ IsReached order writes calls = ((mask : ℕ) × (order ≡ Stop writes mask)) �
 abbrev pub Told : {D : Type 0} → (D → Bool) → (D → Image) → (D → ℕ) → ScriptedView D → ScriptedView D → List SectorWrite → Why → Type 0
 Told keeps reads faults old new all Nothing = ⊥
 Told keeps reads faults old new all (Stopped write count) =
-    (mask : ℕ) × (old.order ≡ Stop write mask) × (new.writes ≡ write) × (count ≡ min (length (kept mask 0 all)) (2 ^ 32 - 1)) × (new.unsynced ≡ []) × (new.intact ≡ old.intact) × (IsTrue (keeps old.disk) → reads_of reads new ≡ put_all (synced_of reads old) (kept mask 0 all))
+    (mask : ℕ) × (old.order ≡ Stop write mask) × (new.writes ≡ write) × (count ≡ min (length (kept mask 0 all)) (2 ^ 32 - 1)) × (new.unsynced ≡ [])
+    × (new.intact ≡ old.intact) × (IsTrue (keeps old.disk) → reads_of reads new ≡ put_all (synced_of reads old) (kept mask 0 all))
 Told keeps reads faults old new all Device =
     (old.order ≡ Fail new.calls) × (new.unsynced ≡ []) × (new.intact ≡ old.intact) × (IsTrue (keeps old.disk) → reads_of reads new ≡ synced_of reads old)
 Told keeps reads faults old new all Inner = HasRisen (faults old.disk) (faults new.disk)
@@ -50,7 +51,8 @@ ToldAtSync keeps reads faults old new Device = Told keeps reads faults old new [
 ToldAtSync keeps reads faults old new Inner = Told keeps reads faults old new [] Inner
 
 -- what a scripted disk promises of a write beside the model of a disk: it is kept back, unless the order is reached or the disk below fails
-pub record DidWrite {D : Type 0} (keeps : D → Bool) (reads : D → Image) (faults : D → ℕ) (old : ScriptedView D) (first : ℕ) (sectors : List (List ℕ)) (result : Result (Unit {0}) DiskError) (new : ScriptedView D) : Type 0 where
+pub record DidWrite {D : Type 0} (keeps : D → Bool) (reads : D → Image) (faults : D → ℕ)
+    (old : ScriptedView D) (first : ℕ) (sectors : List (List ℕ)) (result : Result (Unit {0}) DiskError) (new : ScriptedView D) : Type 0 where
   pub kept_back : OnOk result (new ≡ record old { unsynced = old.unsynced ++ writes first sectors; writes = new.writes; calls = new.calls })
   pub writes_counted : new.writes ≡ min (old.writes + 1) (2 ^ 64 - 1)
   pub calls_counted : new.calls ≡ min (old.calls + 1) (2 ^ 64 - 1)
@@ -102,7 +104,8 @@ below : (b : Bool) (c : Content) (hold : Content → Type 0) → hold c → (x :
 below true c hold held x is = is
 below false c hold held x is = subst hold (sym is) held
 
-pub shown_one : (keeps : Bool) (hold : ℕ → Content → Type 0) (image : Image) (lost : List (ℕ × ℕ)) (ws : List SectorWrite) → IsTrue keeps → IsImage hold image → IsImage (may_show keeps hold lost ws) (shown image lost ws)
+pub shown_one : (keeps : Bool) (hold : ℕ → Content → Type 0) (image : Image) (lost : List (ℕ × ℕ)) (ws : List SectorWrite)
+    → IsTrue keeps → IsImage hold image → IsImage (may_show keeps hold lost ws) (shown image lost ws)
 shown_one keeps hold image lost ws k one at = (
   k,
   elim (was_or_wrote ws (overlay lost image) at) [

@@ -117,7 +117,8 @@ pub(crate) fn flush<D: Disk>(
     ensures durable_below { OnOk result (Only (D.reads disk.new) (D.may_hold disk.new)) }
     ensures spare { spare lost.old ≤ spare lost.new }
     ensures durable { OnOk result (Only (shown (D.reads disk.new) lost.new.entries []) (may_show (D.keeps disk.new) (D.may_hold disk.new) lost.new.entries [])) }
-    ensures crash { MayAdd [] (may_show (D.keeps disk.old) (D.may_hold disk.old) lost.old.entries unsynced.old.items) (may_show (D.keeps disk.new) (D.may_hold disk.new) lost.new.entries unsynced.new.items) }
+    ensures crash { MayAdd [] (may_show (D.keeps disk.old) (D.may_hold disk.old) lost.old.entries unsynced.old.items)
+        (may_show (D.keeps disk.new) (D.may_hold disk.new) lost.new.entries unsynced.new.items) }
     ensures cause { HasCause (D.faults disk.old) (D.faults disk.new) result }
     ensures size { D.size disk.new ≡ D.size disk.old }
     ensures keeps { D.keeps disk.new ≡ D.keeps disk.old }
@@ -182,7 +183,8 @@ pub(crate) fn lose<D: Disk>(
     ensures lost { OnOk result (IsTrue (D.keeps disk.old) → LostAsWritten (D.reads disk.old) lost.old.entries → LostAsWritten (D.reads disk.new) lost.new.entries) }
     ensures shown { OnOk result (IsTrue (D.keeps disk.old) → shown (D.reads disk.new) lost.new.entries [] ≡ with_lost first count (shown (D.reads disk.old) lost.old.entries unsynced.old.items)) }
     ensures durable { OnOk result (Only (shown (D.reads disk.new) lost.new.entries []) (may_show (D.keeps disk.new) (D.may_hold disk.new) lost.new.entries [])) }
-    ensures crash { OnErr result (MayAdd (fillers first 18 count) (may_show (D.keeps disk.old) (D.may_hold disk.old) lost.old.entries unsynced.old.items) (may_show (D.keeps disk.new) (D.may_hold disk.new) lost.new.entries unsynced.new.items)) }
+    ensures crash { OnErr result (MayAdd (fillers first 18 count) (may_show (D.keeps disk.old) (D.may_hold disk.old) lost.old.entries unsynced.old.items)
+        (may_show (D.keeps disk.new) (D.may_hold disk.new) lost.new.entries unsynced.new.items)) }
     ensures cause { HasCause (D.faults disk.old) (D.faults disk.new) result }
     ensures size { D.size disk.new ≡ D.size disk.old }
     ensures keeps { D.keeps disk.new ≡ D.keeps disk.old }

@@ -1,11 +1,13 @@
 //! A disk in memory, which fails at the calls that it is told.
-ghost use Rattle.std.specs.Prelude.{◌≡◌, ◌↔◌, ◌+◌, ◌-◌, ◌^◌, ◌<◌, ◌≤◌, ◌++◌, ◌∷◌, [], ℕ, Bool, IsTrue, Some, None, true, false, length, vec_len, vec_capacity, min, OnOk, OnErr, IsErr, IsErrOf, Contains, nat_eq, replicate, if◌then◌else◌};
+ghost use Rattle.std.specs.Prelude.{◌≡◌, ◌↔◌, ◌+◌, ◌-◌, ◌^◌, ◌<◌, ◌≤◌, ◌++◌, ◌∷◌};
+ghost use Rattle.std.specs.Prelude.{[], ℕ, Bool, IsTrue, Some, None, true, false, length, vec_len, vec_capacity, min, OnOk, OnErr, IsErr, IsErrOf, Contains, nat_eq, replicate, if◌then◌else◌};
 ghost use Rattle.ag_outside.specs.declared.mem_disk.Change.TheVariants.{Wrote, Synced};
 ghost use Rattle.ag_outside.specs.Counts.{HasRisen};
 ghost use Rattle.ag_outside.specs.Calls.{Write_call, Read_call, Sync_call};
 ghost use Rattle.ag_outside.specs.Disks.{put, put_all, writes, MayAdd, SameImages, Only, Elapses, HasCause};
 ghost use Rattle.std.proofs.Common.{inl, refl, lit<};
-ghost use Rattle.ag_outside.specs.MemDisks.{bytes_at, image_of, image_of_zeros, changes, held, left_by, mem_reads, mem_changes, mem_traced, mem_calls, mem_faults, mem_failing, mem_did, now_left, left_now};
+ghost use Rattle.ag_outside.specs.MemDisks.{now_left, left_now};
+ghost use Rattle.ag_outside.specs.MemDisks.{bytes_at, image_of, image_of_zeros, changes, held, left_by, mem_reads, mem_changes, mem_traced, mem_calls, mem_faults, mem_failing, mem_did, MemElapses};
 
 use crate::disk::{Disk, DiskError, Found, Sector, SectorWrite};
 use std::alloc::{AllocError, Global};
@@ -80,7 +82,9 @@ fn put_each(
     requires { first + length from.now ≤ SECTORS }
     ensures written { OnOk result (image_of sectors.new ≡ put_all (image_of sectors.old) (writes first from.now)) }
     ensures crash { MayAdd (writes first from.now) (held (image_of sectors.old) (changes traced past.old.items)) (held (image_of sectors.new) (changes traced past.new.items)) }
-    ensures time { Elapses traced (length (changes traced past.old.items)) (length (changes traced past.new.items)) (left_by (image_of sectors.old) (changes traced past.old.items)) (left_by (image_of sectors.new) (changes traced past.new.items)) (held (image_of sectors.new) (changes traced past.new.items)) }
+    ensures time { Elapses traced (length (changes traced past.old.items)) (length (changes traced past.new.items))
+        (left_by (image_of sectors.old) (changes traced past.old.items)) (left_by (image_of sectors.new) (changes traced past.new.items))
+        (held (image_of sectors.new) (changes traced past.new.items)) }
 {
     let mut at = first;
     'sectors: for sector in from {
@@ -174,7 +178,7 @@ impl Disk for MemDisk {
         requires { first + length from.now ≤ SECTORS }
         ensures written { OnOk result (IsTrue true → mem_reads self.new ≡ put_all (mem_reads self.old) (writes first from.now)) }
         ensures crash { MayAdd (writes first from.now) (held (mem_reads self.old) (mem_changes self.old)) (held (mem_reads self.new) (mem_changes self.new)) }
-        ensures time { Elapses (mem_traced self.old) (length (mem_changes self.old)) (length (mem_changes self.new)) (left_by (mem_reads self.old) (mem_changes self.old)) (left_by (mem_reads self.new) (mem_changes self.new)) (held (mem_reads self.new) (mem_changes self.new)) }
+        ensures time { MemElapses self.old self.new }
         ensures cause { HasCause (mem_faults self.old) (mem_faults self.new) result }
         ensures size { SECTORS ≡ SECTORS }
         ensures keeps { true ≡ true }
@@ -195,7 +199,7 @@ impl Disk for MemDisk {
         ensures lost { result ≡ Ok Found.Lost → IsTrue true → mem_reads self.old at ≡ None }
         ensures reads { mem_reads self.new ≡ mem_reads self.old }
         ensures crash { SameImages (held (mem_reads self.old) (mem_changes self.old)) (held (mem_reads self.new) (mem_changes self.new)) }
-        ensures time { Elapses (mem_traced self.old) (length (mem_changes self.old)) (length (mem_changes self.new)) (left_by (mem_reads self.old) (mem_changes self.old)) (left_by (mem_reads self.new) (mem_changes self.new)) (held (mem_reads self.new) (mem_changes self.new)) }
+        ensures time { MemElapses self.old self.new }
         ensures cause { HasCause (mem_faults self.old) (mem_faults self.new) result }
         ensures size { SECTORS ≡ SECTORS }
         ensures keeps { true ≡ true }
@@ -214,7 +218,7 @@ impl Disk for MemDisk {
         ensures durable { OnOk result (Only (mem_reads self.old) (held (mem_reads self.new) (mem_changes self.new))) }
         ensures reads { OnOk result (IsTrue true → mem_reads self.new ≡ mem_reads self.old) }
         ensures crash { MayAdd [] (held (mem_reads self.old) (mem_changes self.old)) (held (mem_reads self.new) (mem_changes self.new)) }
-        ensures time { Elapses (mem_traced self.old) (length (mem_changes self.old)) (length (mem_changes self.new)) (left_by (mem_reads self.old) (mem_changes self.old)) (left_by (mem_reads self.new) (mem_changes self.new)) (held (mem_reads self.new) (mem_changes self.new)) }
+        ensures time { MemElapses self.old self.new }
         ensures cause { HasCause (mem_faults self.old) (mem_faults self.new) result }
         ensures size { SECTORS ≡ SECTORS }
         ensures keeps { true ≡ true }

@@ -34,7 +34,17 @@ impl<D: Disk> Model for Scripted<D> {
 
     ghost Value = { ScriptedView D };
 
-    ghost view = { λ s. record { disk = s.disk; unsynced = s.unsynced.items; lost = s.lost.entries; order = s.order; writes = s.writes; calls = s.calls; why = s.why; faults = s.faults; intact = s.intact } };
+    ghost view = { λ s. record {
+      disk = s.disk;
+      unsynced = s.unsynced.items;
+      lost = s.lost.entries;
+      order = s.order;
+      writes = s.writes;
+      calls = s.calls;
+      why = s.why;
+      faults = s.faults;
+      intact = s.intact;
+    } };
 
     ghost invariant = { λ s. InRange (D.size s.disk) s.unsynced.items × (IsTrue s.intact → IsTrue (D.keeps s.disk) → LostAsWritten (D.reads s.disk) s.lost.entries) };
 }

@@ -62,7 +62,8 @@ abbrev pub batches : PagesView → List (List PageWrite)
 batches v = map (page_writes (slot v)) (by_eights (dirty_pages v.count (slot v)))
 
 -- the disk took a batch: each image in one call, and then a sync
-pub record TookBatch {D : Type 0} (size : D → ℕ) (keeps : D → Bool) (reads : D → Image) (may_hold : D → ℕ → Content → Type 0) (did : D → Call → D → Type 0) (old : D) (batch : List PageWrite) (new : D) : Type 0 where
+pub record TookBatch {D : Type 0} (size : D → ℕ) (keeps : D → Bool) (reads : D → Image) (may_hold : D → ℕ → Content → Type 0) (did : D → Call → D → Type 0)
+    (old : D) (batch : List PageWrite) (new : D) : Type 0 where
   pub keeping : keeps new ≡ keeps old
   pub sectors : size new ≡ size old
   pub content : reads new ≡ put_all (reads old) (written (reads old) batch)
@@ -73,10 +74,12 @@ pub record TookBatch {D : Type 0} (size : D → ℕ) (keeps : D → Bool) (reads
 abbrev pub TakesBatches : {D : Type 0} → (D → ℕ) → (D → Bool) → (D → Image) → (D → ℕ → Content → Type 0) → (D → Call → D → Type 0) → D → List (List PageWrite) → D → Type 0
 TakesBatches size keeps reads may_hold did old [] new = WasOnlyRead size keeps reads may_hold did old new
 TakesBatches {D = D} size keeps reads may_hold did old (batch ∷ batches) new =
-    (before : D) × (after : D) × WasOnlyRead size keeps reads may_hold did old before × TookBatch size keeps reads may_hold did before batch after × TakesBatches size keeps reads may_hold did after batches new
+    (before : D) × (after : D) × WasOnlyRead size keeps reads may_hold did old before
+    × TookBatch size keeps reads may_hold did before batch after × TakesBatches size keeps reads may_hold did after batches new
 
 -- the disk took some of the batches, and failed on the way of the next one, or while it was read before that
-pub record BreaksOff {D : Type 0} (size : D → ℕ) (keeps : D → Bool) (reads : D → Image) (may_hold : D → ℕ → Content → Type 0) (did : D → Call → D → Type 0) (old : D) (batches : List (List PageWrite)) (new : D) : Type 0 where
+pub record BreaksOff {D : Type 0} (size : D → ℕ) (keeps : D → Bool) (reads : D → Image) (may_hold : D → ℕ → Content → Type 0) (did : D → Call → D → Type 0)
+    (old : D) (batches : List (List PageWrite)) (new : D) : Type 0 where
   pub before : List (List PageWrite)
   pub at : List PageWrite
   pub after : List (List PageWrite)
@@ -86,7 +89,8 @@ pub record BreaksOff {D : Type 0} (size : D → ℕ) (keeps : D → Bool) (reads
   pub failed : FailsOnTheWay did mid (pieces (reads mid) at) new ⊎ WasOnlyRead size keeps reads may_hold did mid new
 
 -- the dirty pages of these batches were written and are clean; each value stays, in memory or in its image
-pub record Flushed {D : Type 0} (size : D → ℕ) (keeps : D → Bool) (reads : D → Image) (may_hold : D → ℕ → Content → Type 0) (did : D → Call → D → Type 0) (old : D) (before : ℕ → Slot) (batches : List (List ℕ)) (new : D) (after : ℕ → Slot) : Type 0 where
+pub record Flushed {D : Type 0} (size : D → ℕ) (keeps : D → Bool) (reads : D → Image) (may_hold : D → ℕ → Content → Type 0) (did : D → Call → D → Type 0)
+    (old : D) (before : ℕ → Slot) (batches : List (List ℕ)) (new : D) (after : ℕ → Slot) : Type 0 where
   pub calls : TakesBatches size keeps reads may_hold did old (map (page_writes before) batches) new
   pub written : IsWritten (reads old) (page_writes before (concat batches)) (reads new)
   pub whole : AllByRecursion IsWhole (page_writes before (concat batches))

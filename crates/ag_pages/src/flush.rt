@@ -16,7 +16,8 @@ ghost use Rattle.ag_stripe.specs.Known.Known.{Value};
 ghost use Rattle.ag_pages.specs.declared.flush.FlushFault.TheVariants.{Disk, Unlawful};
 ghost use Rattle.ag_pages.specs.Views.{slot, is_page, is_dirty, known_of, told_by};
 ghost use Rattle.ag_pages.specs.Reading.{WasOnlyRead, OnlyReadsIn};
-ghost use Rattle.ag_pages.specs.Flush.{IsToWrite, IsDirtyBatch, HasItsImage, dirty_pages, page_write, page_writes, batches, one_more_if, TookBatch, TakesBatches, BreaksOff, Flushed, IsFlushFault, StayKept};
+ghost use Rattle.ag_pages.specs.Flush.{IsToWrite, IsDirtyBatch, HasItsImage, dirty_pages, page_write, page_writes};
+ghost use Rattle.ag_pages.specs.Flush.{batches, one_more_if, TookBatch, TakesBatches, BreaksOff, Flushed, IsFlushFault, StayKept};
 
 use crate::pages::Pages;
 use crate::pending::PageBatch;
@@ -182,7 +183,8 @@ impl Pages {
         ensures flushed { OnOk result (Flushed D.size D.keeps D.reads D.may_hold D.did disk.old (slot self.old) (one_more_if (is_dirty self.old page) batch.old page).full disk.new (slot self.new)) }
         ensures batch { OnOk result (batch.new ≡ (one_more_if (is_dirty self.old page) batch.old page).last) }
         ensures fault { IfErr result (IsFlushFault (told_by D.keeps D.reads disk.old) self.old) }
-        ensures broken { result ≡ Err Disk → BreaksOff D.size D.keeps D.reads D.may_hold D.did disk.old (map (page_writes (slot self.old)) (one_more_if (is_dirty self.old page) batch.old page).full) disk.new }
+        ensures broken { result ≡ Err Disk → BreaksOff D.size D.keeps D.reads D.may_hold D.did disk.old
+            (map (page_writes (slot self.old)) (one_more_if (is_dirty self.old page) batch.old page).full) disk.new }
         ensures count { self.new.count ≡ self.old.count }
         ensures applied { self.new.applied ≡ self.old.applied }
         ensures kept { StayKept (slot self.old) (slot self.new) }
@@ -256,18 +258,21 @@ impl Pages {
 
         // After `Ok` each page is clean, and what is known of it is as it was.
         ensures clean { OnOk result ((page : ℕ) → is_page self.old page ≡ true → is_dirty self.new page ≡ false) }
-        ensures known { OnOk result ((page : ℕ) → is_page self.old page ≡ true → known_of (told_by D.keeps D.reads disk.new) self.new page ≡ known_of (told_by D.keeps D.reads disk.old) self.old page) }
+        ensures known { OnOk result ((page : ℕ) → is_page self.old page ≡ true
+            → known_of (told_by D.keeps D.reads disk.new) self.new page ≡ known_of (told_by D.keeps D.reads disk.old) self.old page) }
 
         // Each page that was dirty has a new image, which says its value. Each other data page has the image that it had,
         // and each sector outside of the dirty data pages what it had.
-        ensures cells { OnOk result ((page : ℕ) → is_page self.old page ≡ true → page_cells (D.reads disk.new) page ≡ (if is_dirty self.old page then written_cells (page_cells (D.reads disk.old) page) else page_cells (D.reads disk.old) page)) }
+        ensures cells { OnOk result ((page : ℕ) → is_page self.old page ≡ true → page_cells (D.reads disk.new) page
+            ≡ (if is_dirty self.old page then written_cells (page_cells (D.reads disk.old) page) else page_cells (D.reads disk.old) page)) }
         ensures images { OnOk result ((page : ℕ) (v : PageValue) → is_page self.old page ≡ true → is_dirty self.old page ≡ true → known_of (told_by D.keeps D.reads disk.old) self.old page ≡ Value v
             → v.page ≡ page → IsInRange v → in_home (Some (image_of (D.reads disk.new))) page ≡ Value v) }
         ensures other_images { OnOk result ((page : ℕ) → is_page self.old page ≡ true → is_dirty self.old page ≡ false → image_of (D.reads disk.new) page ≡ image_of (D.reads disk.old) page) }
         ensures others { OnOk result ((at : ℕ) → ((page : ℕ) → is_page self.old page ≡ true → is_dirty self.old page ≡ true → IsOutside page at) → D.reads disk.new at ≡ D.reads disk.old at) }
 
         // A crash leaves that, unless no page was dirty and a crash might have left something else before.
-        ensures durable { OnOk result ((((page : ℕ) → is_page self.old page ≡ true → is_dirty self.old page ≡ false) → Only (D.reads disk.old) (D.may_hold disk.old)) → Only (D.reads disk.new) (D.may_hold disk.new)) }
+        ensures durable { OnOk result ((((page : ℕ) → is_page self.old page ≡ true → is_dirty self.old page ≡ false) → Only (D.reads disk.old) (D.may_hold disk.old))
+            → Only (D.reads disk.new) (D.may_hold disk.new)) }
 
         // The disk took the batches; or it took some, and failed on the way of the next one.
         ensures calls { OnOk result (TakesBatches D.size D.keeps D.reads D.may_hold D.did disk.old (batches self.old) disk.new) }

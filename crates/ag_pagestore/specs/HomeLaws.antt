@@ -24,11 +24,13 @@ module _ {D : Type 0} (size : D → ℕ) (keeps : D → Bool) (reads : D → Ima
 
   module _ (moment : D → ℕ) (left_since : D → ℕ → Image → Type 0) where
     -- reads, and then writings
-    reads_leave : (ys : List PutBack) (a b c : Held D) → Untouched size keeps reads may_hold did a b → Leaves size keeps reads may_hold did moment left_since b ys c → Leaves size keeps reads may_hold did moment left_since a ys c
+    reads_leave : (ys : List PutBack) (a b c : Held D) → Untouched size keeps reads may_hold did a b
+        → Leaves size keeps reads may_hold did moment left_since b ys c → Leaves size keeps reads may_hold did moment left_since a ys c
     reads_leave [] a b c first then = untouched_both a b c first then
     reads_leave (y ∷ ys) a b c first (before, after, reads_only, took, rest) = (before, after, untouched_both a b before first reads_only, took, rest)
 
     -- writings, and then writings
-    pub leave_both : (xs ys : List PutBack) (a b c : Held D) → Leaves size keeps reads may_hold did moment left_since a xs b → Leaves size keeps reads may_hold did moment left_since b ys c → Leaves size keeps reads may_hold did moment left_since a (xs ++ ys) c
+    pub leave_both : (xs ys : List PutBack) (a b c : Held D) → Leaves size keeps reads may_hold did moment left_since a xs b
+        → Leaves size keeps reads may_hold did moment left_since b ys c → Leaves size keeps reads may_hold did moment left_since a (xs ++ ys) c
     leave_both [] ys a b c first then = reads_leave ys a b c first then
     leave_both (x ∷ xs) ys a b c (before, after, reads_only, took, rest) then = (before, after, reads_only, took, leave_both xs ys after b c rest then)

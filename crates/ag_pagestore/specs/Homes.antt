@@ -36,7 +36,8 @@ pub record Untouched {D : Type 0} (size : D → ℕ) (keeps : D → Bool) (reads
   pub calls : IsReadOnly did old.disk new.disk
 
 -- the disk took a batch of one page, or refused it
-pub record Took {D : Type 0} (size : D → ℕ) (keeps : D → Bool) (reads : D → Image) (may_hold : D → ℕ → Content → Type 0) (did : D → Call → D → Type 0) (moment : D → ℕ) (left_since : D → ℕ → Image → Type 0) (old : Held D) (w : PutBack) (new : Held D) : Type 0 where
+pub record Took {D : Type 0} (size : D → ℕ) (keeps : D → Bool) (reads : D → Image) (may_hold : D → ℕ → Content → Type 0) (did : D → Call → D → Type 0)
+    (moment : D → ℕ) (left_since : D → ℕ → Image → Type 0) (old : Held D) (w : PutBack) (new : Held D) : Type 0 where
   pub keeping : keeps new.disk ≡ keeps old.disk
   pub sectors : size new.disk ≡ size old.disk
   pub written : w.refused ≡ false → IsTrue (keeps old.disk) → IsWritten (reads old.disk) (one_page w) (reads new.disk)
@@ -54,7 +55,9 @@ LastMayBeRefused (w ∷ []) = Unit {0}
 LastMayBeRefused (w ∷ ws) = (w.refused ≡ false) × LastMayBeRefused ws
 
 -- these writings in turn, with nothing but reads between them
-abbrev pub Leaves : {D : Type 0} → (D → ℕ) → (D → Bool) → (D → Image) → (D → ℕ → Content → Type 0) → (D → Call → D → Type 0) → (D → ℕ) → (D → ℕ → Image → Type 0) → Held D → List PutBack → Held D → Type 0
+abbrev pub Leaves : {D : Type 0} → (D → ℕ) → (D → Bool) → (D → Image) → (D → ℕ → Content → Type 0) → (D → Call → D → Type 0)
+    → (D → ℕ) → (D → ℕ → Image → Type 0) → Held D → List PutBack → Held D → Type 0
 Leaves size keeps reads may_hold did moment left_since old [] new = Untouched size keeps reads may_hold did old new
 Leaves {D = D} size keeps reads may_hold did moment left_since old (w ∷ ws) new =
-    (before : Held D) × (after : Held D) × Untouched size keeps reads may_hold did old before × Took size keeps reads may_hold did moment left_since before w after × Leaves size keeps reads may_hold did moment left_since after ws new
+    (before : Held D) × (after : Held D) × Untouched size keeps reads may_hold did old before × Took size keeps reads may_hold did moment left_since before w after
+    × Leaves size keeps reads may_hold did moment left_since after ws new

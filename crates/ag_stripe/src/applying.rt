@@ -41,7 +41,8 @@ impl<H: PageHome> Stripe<H> {
         // It is refused where a page that the block touches is bad, and then nothing changes.
         ensures sound { OnOk result ((page : ℕ) → is_touched self.old.table block.now.records page ≡ true → known (H.told self.old.home) self.old.table page ≡ NotSound → ⊥) }
         ensures fault { IfErr result (IsApplyFault (H.told self.old.home) self.old.table self.old.applied block.now.records) }
-        ensures unchanged { (page : ℕ) → result ≡ Err (Bad page) → OnlyReads (H.told self.old.home) self.old.table self.new.table × (self.new.applied ≡ self.old.applied) × HasPages H.has_page self.new.table self.new.home }
+        ensures unchanged { (page : ℕ) → result ≡ Err (Bad page) → OnlyReads (H.told self.old.home) self.old.table self.new.table
+            × (self.new.applied ≡ self.old.applied) × HasPages H.has_page self.new.table self.new.home }
 
         ensures opening { self.new.opening ≡ self.old.opening }
         ensures home { WasRead H.has_page H.told H.faults H.refusals H.leaves self.old.home self.new.home }
@@ -71,7 +72,8 @@ impl<H: PageHome> Stripe<H> {
         // It is refused where a page that they touch is bad, and then nothing changes.
         ensures sound { OnOk result ((page : ℕ) → is_touched self.old.table records.now page ≡ true → known (H.told self.old.home) self.old.table page ≡ NotSound → ⊥) }
         ensures fault { IfErr result (IsApplyFault (H.told self.old.home) self.old.table self.old.applied records.now) }
-        ensures unchanged { (page : ℕ) → result ≡ Err (Bad page) → OnlyReads (H.told self.old.home) self.old.table self.new.table × (self.new.applied ≡ self.old.applied) × HasPages H.has_page self.new.table self.new.home }
+        ensures unchanged { (page : ℕ) → result ≡ Err (Bad page) → OnlyReads (H.told self.old.home) self.old.table self.new.table
+            × (self.new.applied ≡ self.old.applied) × HasPages H.has_page self.new.table self.new.home }
 
         // A dirty page has its value in memory, whatever is answered.
         ensures kept { AreDirtyKept self.old.table → AreDirtyKept self.new.table }

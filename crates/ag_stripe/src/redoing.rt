@@ -21,7 +21,8 @@ fn redo_listed(
 ) -> Result<(), StripeFault>
     requires { (q : ℕ) → touches table.old.pages q entry.now ≡ contains q pages.now }
     ensures same { IsSameTable table.old table.new }
-    ensures redone { OnOk result ((q : ℕ) → slot_of table.new q ≡ (if is_own table.old q && contains q pages.now then redone_slot lsn entry.now (slot_of table.old q) else slot_of table.old q)) }
+    ensures redone { OnOk result ((q : ℕ) → slot_of table.new q
+        ≡ (if is_own table.old q && contains q pages.now then redone_slot lsn entry.now (slot_of table.old q) else slot_of table.old q)) }
     ensures edits { OnlyEdits table.old table.new (λ q. is_own table.old q && touches table.old.pages q entry.now) }
     ensures refused { IfErr result (IsRefusal lsn entry.now table.old) }
 {
@@ -34,7 +35,8 @@ fn redo_listed(
 /// Redoes the record at this LSN on each page of the stripe that it touches.
 fn redo(table: &mut PageTable, lsn: u64, entry: &Record) -> Result<(), StripeFault>
     ensures same { IsSameTable table.old table.new }
-    ensures redone { OnOk result ((q : ℕ) → slot_of table.new q ≡ (if is_own table.old q && touches table.old.pages q entry.now then redone_slot lsn entry.now (slot_of table.old q) else slot_of table.old q)) }
+    ensures redone { OnOk result ((q : ℕ) → slot_of table.new q
+        ≡ (if is_own table.old q && touches table.old.pages q entry.now then redone_slot lsn entry.now (slot_of table.old q) else slot_of table.old q)) }
     ensures edits { OnlyEdits table.old table.new (λ q. is_own table.old q && touches table.old.pages q entry.now) }
     ensures refused { IfErr result (IsRefusal lsn entry.now table.old) }
 {

@@ -88,7 +88,6 @@ trimmed-stamped n t h all v free fresh below = elim (cases_Bool (eqb v.txn t)) [
       ∙ trimmed-is h (map (stamped n t) all) all v (any-map_agree (follows h v) (follows h v) (stamped n t) all (all_map (λ w. w.txn ≡ t → w.commit ≡ 0) (λ w. follows h v (stamped n t w) ≡ follows h v w) (λ w f. follows-stamped_other n t h v w below f) all free))
 ]
   where
-
     never : (a b : Bool) → (a && (b && false)) ≡ false
     never true true = refl
     never true false = refl
