@@ -5,7 +5,8 @@ use Rattle.ag_logblock.specs.declared.Head.{Head}
 
 -- one sector: term, incarnation, first LSN, index, count, how many bytes of the payload, and these, with zeros after them
 abbrev pub sector : Head → ℕ → ℕ → List ℕ → List ℕ
-sector head count index part = to_be_bytes w64 head.term ++ (to_be_bytes w64 head.incarnation ++ (to_be_bytes w64 head.first ++ (index ∷ count ∷ (to_be_bytes w16 (length part) ++ (part ++ replicate (484 - length part) 0)))))
+sector head count index part = to_be_bytes w64 head.term ++ (to_be_bytes w64 head.incarnation ++ (to_be_bytes w64 head.first
+    ++ (index ∷ count ∷ (to_be_bytes w16 (length part) ++ (part ++ replicate (484 - length part) 0)))))
 
 -- so many sectors from this index on, each with 484 bytes of the payload as long as there are so many
 unfoldable pub sectors_from : Head → ℕ → ℕ → ℕ → List ℕ → List (List ℕ)

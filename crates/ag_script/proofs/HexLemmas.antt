@@ -1,11 +1,12 @@
 -- Hex digits.
-use Rattle.std.proofs.Common.{◌≡◌, ℕ, suc, ◌+◌, ◌-◌, ◌*◌, ◌%◌, ◌<◌, ◌≤◌, ◌^◌, List, [], ◌∷◌, ◌++◌, length, get_or, set, drop, Bool, true, false, cond, ltb, leb, ◌&&◌, Option, Some, None, refl, sym, ap, subst, ◌∙◌, arith, inl, inr, ◌⊎◌, append_assoc, add-one}
+use Rattle.std.proofs.Common.{◌≡◌, ℕ, suc, ◌+◌, ◌-◌, ◌*◌, ◌%◌, ◌<◌, ◌≤◌, ◌^◌, List, [], ◌∷◌, ◌++◌, length, get_or, set, drop, Bool, false, cond, ltb, leb, ◌&&◌, Option, Some, None, refl, sym, ap, subst, ◌∙◌, arith, inl, inr, ◌⊎◌, append_assoc, add-one}
 use Rattle.std.proofs.Math.Nat.{pow-le-pow_right, pow-succ'}
 use Rattle.std.proofs.Math.Seq.{set-append_seam}
 use Rattle.std.proofs.lemmas.List.{length-append}
 use Rattle.std.proofs.lemmas.Bool.{lt-leb}
 use Rattle.std.specs.Prelude.{replicate, codes}
 use Rattle.std.specs.Str.{bytes_eq}
+use Rattle.std.proofs.Math.Bool.{and-false}
 use Rattle.ag_script.proofs.WordLemmas.{cases_option}
 use Rattle.ag_script.specs.Hex.{◌>>=◌, hex_at}
 use Rattle.ag_script.specs.ReadWord.{bytes_at, value_at, padded_value}
@@ -76,12 +77,8 @@ bytes_len (a ∷ b ∷ more) bs e =
       ]
     ]
 
-and_false : (b : Bool) → b && false ≡ false
-and_false true = refl
-and_false false = refl
-
 too_many : (n : ℕ) → 64 < n → ltb 0 n && leb n 64 ≡ false
-too_many n many = rw (lt-leb n 64 many) (and_false (ltb 0 n))
+too_many n many = rw (lt-leb n 64 many) (and-false (ltb 0 n))
 
 value_none : (w : List ℕ) → bytes_eq w (codes "-") ≡ false → bytes_at w ≡ None → value_at w ≡ None
 value_none w differs e = rw (differs, e) refl

@@ -2,6 +2,7 @@
 use Rattle.std.proofs.Common.{◌≡◌, ℕ, ◌≤◌, List, [], ◌∷◌, ◌++◌, length, Some, None, refl, sym, ap, subst, ◌∙◌}
 use Rattle.std.specs.Prelude.{codes}
 use Rattle.std.specs.List.{flat_map}
+use Rattle.ag_lists.proofs.Results.{some_is}
 use Rattle.ag_model.specs.declared.config.Config.{Config}
 use Rattle.ag_model.specs.declared.value.Value.{Value}
 use Rattle.ag_model.specs.declared.event.Pair.{Pair}
@@ -13,7 +14,7 @@ use Rattle.ag_script.specs.Words.{Word, Name, Node, Other, Number, Bytes, Spells
 use Rattle.ag_script.specs.ReadWords.{pairs_at}
 use Rattle.ag_script.specs.Shapes.{Shape, Ends, PairsEnd, NodeThen, OtherThen, NumberThen, BytesThen, read, set_shape, begin_shape, get_shape, put_shape, del_shape, commit_shape, rollback_shape, trim_shape, harden_shape, ack_shape, send_shape, deliver_shape, repeat_shape, lose_shape, apply_shape, raise_shape, redo_shape, report_shape, read_shape, snap_shape, view_shape, close_shape, suspects_shape, page_shape, sectors_shape, status_shape, flush_shape, crash_shape, start_shape, spoil_shape, unread_shape, ask_shape, cut_shape, mend_shape, join_shape, resume_shape, sync_shape, timeout_shape, planned_shape, auto_shape, force_shape, finish_shape}
 use Rattle.ag_script.specs.Named.{transaction_shapes, log_shapes, look_shapes, disk_shapes, member_shapes, event_at}
-use Rattle.ag_script.proofs.WordLemmas.{some_is, node_again, other_again, number_again, value_again}
+use Rattle.ag_script.proofs.WordLemmas.{node_again, other_again, number_again, value_again}
 use Rattle.ag_script.proofs.SuffixLemmas.{suffix_again}
 use Rattle.ag_script.proofs.PairLemmas.{pairs_again, no_key}
 

@@ -3,6 +3,7 @@ use Rattle.std.proofs.Common.{◌≡◌, ℕ, ◌≤◌, List, [], ◌∷◌, �
 use Rattle.std.specs.List.{flat_map}
 use Rattle.std.specs.Str.{bytes_eq}
 use Rattle.std.proofs.lemmas.Slice.Eq.{bytes_eq-Decides}
+use Rattle.ag_lists.proofs.Results.{some_is}
 use Rattle.ag_model.specs.declared.config.Config.{Config}
 use Rattle.ag_model.specs.declared.value.Value.{Value}
 use Rattle.ag_model.specs.declared.event.Pair.{Pair}
@@ -15,7 +16,7 @@ use Rattle.ag_script.specs.ReadWord.{who_at, other_at, number_at, value_at}
 use Rattle.ag_script.specs.ReadWords.{word_by, suffix_at, pairs_at}
 use Rattle.ag_script.specs.Shapes.{Shape, Ends, PairsEnd, NodeThen, OtherThen, NumberThen, BytesThen, read}
 use Rattle.ag_script.specs.Named.{first_named, shapes, transaction_shapes, log_shapes, look_shapes, disk_shapes, member_shapes, event_at}
-use Rattle.ag_script.proofs.WordLemmas.{cases_option, pick, found, some_is, node_takes, other_takes, number_takes, value_takes}
+use Rattle.ag_script.proofs.WordLemmas.{cases_option, pick, found, node_takes, other_takes, number_takes, value_takes}
 use Rattle.ag_script.proofs.SuffixLemmas.{suffix_takes}
 use Rattle.ag_script.proofs.PairLemmas.{pairs_takes}
 

@@ -6,6 +6,7 @@ use Rattle.std.proofs.lemmas.List.{append-nil, length-append}
 use Rattle.std.proofs.lemmas.List.Concat.{flat_map-cons}
 use Rattle.std.proofs.lemmas.Option.{cond_some}
 use Rattle.std.proofs.lemmas.Bool.{ltb-true, lt-ltb}
+use Rattle.ag_lists.proofs.Results.{some_is}
 use Rattle.ag_model.specs.declared.event.Pair.{Pair}
 use Rattle.ag_model.specs.declared.event.Suffix.{Suffix}
 use Rattle.ag_model.specs.declared.event.Suffix.TheVariants.{Whole, Stop, Fail}
@@ -13,7 +14,7 @@ use Rattle.ag_script.specs.Words.{Word, Bytes, key, Spells, SpellsAll, pair_word
 use Rattle.ag_script.specs.Hex.{◌>>=◌}
 use Rattle.ag_script.specs.ReadWord.{number_at, value_at}
 use Rattle.ag_script.specs.ReadWords.{word_by, key_by, some_pairs, pairs_at}
-use Rattle.ag_script.proofs.WordLemmas.{pick, some_is, found, number_takes, number_again, value_takes, value_again}
+use Rattle.ag_script.proofs.WordLemmas.{pick, found, number_takes, number_again, value_takes, value_again}
 use Rattle.ag_script.proofs.SuffixLemmas.{word_takes}
 
 abbrev Read : Type 0

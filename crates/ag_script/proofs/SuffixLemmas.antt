@@ -2,13 +2,14 @@
 use Rattle.std.proofs.Common.{◌≡◌, ℕ, ◌-◌, ◌^◌, List, [], ◌∷◌, cond, Option, Some, None, refl, sym, subst, ◌∙◌, inl, inr}
 use Rattle.std.specs.Prelude.{codes}
 use Rattle.std.specs.Str.{bytes_eq}
+use Rattle.ag_lists.proofs.Results.{some_is}
 use Rattle.ag_model.specs.declared.event.Suffix.{Suffix}
 use Rattle.ag_model.specs.declared.event.Suffix.TheVariants.{Whole, Stop, Fail}
 use Rattle.ag_script.specs.Words.{SpellsAll, suffix_words}
 use Rattle.ag_script.specs.Hex.{◌>>=◌}
 use Rattle.ag_script.specs.ReadWord.{number_at, mask_at}
 use Rattle.ag_script.specs.ReadWords.{word_by, suffix_at, stop_at, fail_at, ended}
-use Rattle.ag_script.proofs.WordLemmas.{cases_option, pick, is_text, some_is, number_takes, number_again, mask_takes, mask_again}
+use Rattle.ag_script.proofs.WordLemmas.{cases_option, pick, is_text, number_takes, number_again, mask_takes, mask_again}
 
 pub word_takes : {A B : Type 0} (f : List ℕ → Option A) (texts : List (List ℕ)) (k : A × List (List ℕ) → Option B) (y : B) → (word_by f texts >>= k) ≡ Some y → (text : List ℕ) × (rest : List (List ℕ)) × (x : A) × (texts ≡ text ∷ rest) × (f text ≡ Some x) × (k (x, rest) ≡ Some y)
 word_takes f [] k y h = absurd cc

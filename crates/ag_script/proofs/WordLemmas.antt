@@ -9,9 +9,10 @@ use Rattle.std.proofs.lemmas.List.Concat.{flat_map-cons}
 use Rattle.std.proofs.Common.{◌/◌, ◌%◌}
 use Rattle.std.proofs.lemmas.Slice.Eq.{bytes_eq-Decides}
 use Rattle.std.proofs.lemmas.Option.{cond_some}
-use Rattle.std.proofs.lemmas.Bool.{le-ltb, ltb-true, leb-true, lt-leb, le-leb, lt-ltb, ne_eqb, eqb-true, eq-eqb, cases_lt, and_right, cases_Bool, eqb-false}
+use Rattle.std.proofs.lemmas.Bool.{le-ltb, ltb-true, leb-true, lt-leb, le-leb, lt-ltb, ne_eqb, eqb-true, eq-eqb, cases_lt, and_right, cases_Bool, eqb-false, and_parts, or_cases, not-true, or_left, or_right, and_from}
 use Rattle.std.proofs.lemmas.List.{take_at, drop_at, take-append-drop, length-append, length-take, length-replicate}
 use Rattle.std.proofs.lemmas.Fmt.{decimal-digits_value, digits_decimal, digits_value-decimal, decimal_nonempty, first_decimal, decimal_digit}
+use Rattle.ag_lists.proofs.Results.{some_is}
 use Rattle.ag_model.specs.declared.value.Value.{Value}
 use Rattle.ag_model.specs.declared.event.Who.{Who}
 use Rattle.ag_model.specs.declared.event.Who.TheVariants.{Letter, Primary}
@@ -25,19 +26,6 @@ use Rattle.ag_script.proofs.Numbers.{numerals}
 pub cases_option : {A : Type 0} (o : Option A) → (o ≡ None) ⊎ ((x : A) × (o ≡ Some x))
 cases_option None = inl refl
 cases_option (Some x) = inr (x, refl)
-
-both : (a b : Bool) → a && b ≡ true → (a ≡ true) × (b ≡ true)
-both true true e = (refl, refl)
-both true false e = absurd cc
-both false b e = absurd cc
-
-either : (a b : Bool) → a || b ≡ true → (a ≡ true) ⊎ (b ≡ true)
-either true b e = inl refl
-either false b e = inr e
-
-not_true : (b : Bool) → not b ≡ true → b ≡ false
-not_true true e = absurd cc
-not_true false e = refl
 
 cases_bool : (b : Bool) → (b ≡ true → b ≡ false) → b ≡ false
 cases_bool true f = f refl
@@ -62,13 +50,10 @@ pair_is a b x y p q = rw (p, q) refl
 
 -- ---- nodes
 
-pub some_is : {A : Type 0} (x y : A) → Some x ≡ Some y → x ≡ y
-some_is x y e = cc
-
 node_letter : (c : Config) (b : ℕ) (who : Who) (t : Bool) → (leb 65 b && ltb b (65 + length c.modes)) ≡ t → cond t (Some (Letter (b - 65))) None ≡ Some who → Spells (Node c who) (b ∷ [])
 node_letter c b who false is e = absurd cc
 node_letter c b who true is e =
-    let p = both (leb 65 b) (ltb b (65 + length c.modes)) is in
+    let p = and_parts (leb 65 b) (ltb b (65 + length c.modes)) is in
     let low : 65 ≤ b = leb-true _ _ p.0 in
     let high : b < 65 + length c.modes = ltb-true _ _ p.1 in
     let text : b ≡ 65 + (b - 65) = omega arith in
@@ -77,9 +62,6 @@ node_letter c b who true is e =
 node_one : (c : Config) (b : ℕ) (who : Who) (t : Bool) → eqb b 64 ≡ t → cond t (Some Primary) (cond (leb 65 b && ltb b (65 + length c.modes)) (Some (Letter (b - 65))) None) ≡ Some who → Spells (Node c who) (b ∷ [])
 node_one c b who true is e = subst (λ (w : Who). (b ∷ [] ≡ who_text w) × IsWho c w) (some_is Primary who e) (ap (λ (x : ℕ). x ∷ []) (eqb-true _ _ is), tt)
 node_one c b who false is e = node_letter c b who (leb 65 b && ltb b (65 + length c.modes)) refl e
-
-pub both_are : (a b : Bool) → a ≡ true → b ≡ true → a && b ≡ true
-both_are a b p q = rw (p, q) refl
 
 pub node_takes : (c : Config) (text : List ℕ) (who : Who) → who_at c text ≡ Some who → Spells (Node c who) text
 node_takes c [] who e = absurd cc
@@ -90,7 +72,7 @@ pub node_again : (c : Config) (text : List ℕ) (who : Who) → Spells (Node c w
 node_again c text Primary h = rw h.0 refl
 node_again c text (Letter n) h =
     let not_at : eqb (65 + n) 64 ≡ false = grind arith in
-    let inside : (leb 65 (65 + n) && ltb (65 + n) (65 + length c.modes)) ≡ true = both_are _ _ (le-leb 65 (65 + n) (omega arith)) (lt-ltb (65 + n) (65 + length c.modes) (omega (arith, h.1))) in
+    let inside : (leb 65 (65 + n) && ltb (65 + n) (65 + length c.modes)) ≡ true = and_from _ _ (le-leb 65 (65 + n) (omega arith)) (lt-ltb (65 + n) (65 + length c.modes) (omega (arith, h.1))) in
     let back : 65 + n - 65 ≡ n = omega arith in
     rw h.0 (ap (λ (b : Bool). cond b (Some Primary) (cond (leb 65 (65 + n) && ltb (65 + n) (65 + length c.modes)) (Some (Letter (65 + n - 65))) None)) not_at
     ∙ ap (λ (b : Bool). cond b (Some (Letter (65 + n - 65))) None) inside ∙ ap (λ (m : ℕ). Some (Letter m)) back)
@@ -127,26 +109,19 @@ other_again c first text who h = rw (node_again c text who (h.0, h.1), differ wh
 pub number_takes : (low high : ℕ) (text : List ℕ) (n : ℕ) → number_at low high text ≡ Some n → Spells (Number low high n) text
 number_takes low high text n e =
     let c = cond_some (is_number text && ltb (digits_value 10 text) (2 ^ 64) && leb low (digits_value 10 text) && leb (digits_value 10 text) high) (digits_value 10 text) n e in
-    let p1 = both (is_number text && ltb (digits_value 10 text) (2 ^ 64) && leb low (digits_value 10 text)) (leb (digits_value 10 text) high) c.0 in
-    let p2 = both (is_number text && ltb (digits_value 10 text) (2 ^ 64)) (leb low (digits_value 10 text)) p1.0 in
-    let p3 = both (is_number text) (ltb (digits_value 10 text) (2 ^ 64)) p2.0 in
-    let q1 = both (all_ascii_digits text && ltb 0 (length text)) (ltb (length text) 2 || not (eqb (get_or text 0 0) 48)) p3.0 in
-    let q2 = both (all_ascii_digits text) (ltb 0 (length text)) q1.0 in
+    let p1 = and_parts (is_number text && ltb (digits_value 10 text) (2 ^ 64) && leb low (digits_value 10 text)) (leb (digits_value 10 text) high) c.0 in
+    let p2 = and_parts (is_number text && ltb (digits_value 10 text) (2 ^ 64)) (leb low (digits_value 10 text)) p1.0 in
+    let p3 = and_parts (is_number text) (ltb (digits_value 10 text) (2 ^ 64)) p2.0 in
+    let q1 = and_parts (all_ascii_digits text && ltb 0 (length text)) (ltb (length text) 2 || not (eqb (get_or text 0 0) 48)) p3.0 in
+    let q2 = and_parts (all_ascii_digits text) (ltb 0 (length text)) q1.0 in
     let some : 0 < length text = ltb-true _ _ q2.1 in
     let small : digits_value 10 text < 2 ^ 64 = ltb-true _ _ p3.1 in
-    let plain : get_or text 0 0 ≡ 48 → length text ≡ 1 = λ zero_first. elim (either (ltb (length text) 2) (not (eqb (get_or text 0 0) 48)) q1.1) [
+    let plain : get_or text 0 0 ≡ 48 → length text ≡ 1 = λ zero_first. elim (or_cases (ltb (length text) 2) (not (eqb (get_or text 0 0) 48)) q1.1) [
       | inl short ↦ (let s : length text < 2 = ltb-true _ _ short in omega arith)
-      | inr other ↦ absurd (let a : eqb (get_or text 0 0) 48 ≡ true = eq-eqb _ _ zero_first in let b = not_true (eqb (get_or text 0 0) 48) other in let f : true ≡ false = sym a ∙ b in cc)
+      | inr other ↦ absurd (let a : eqb (get_or text 0 0) 48 ≡ true = eq-eqb _ _ zero_first in let b = not-true (eqb (get_or text 0 0) 48) other in let f : true ≡ false = sym a ∙ b in cc)
     ] in
     subst (λ (m : ℕ). (text ≡ decimal m) × (low ≤ m) × (m ≤ high) × (m < 2 ^ 64)) c.1
     (sym (decimal-digits_value numerals text q2.0 some plain small), leb-true _ _ p2.1, leb-true _ _ p1.1, small)
-
-or_left : (a b : Bool) → a ≡ true → a || b ≡ true
-or_left a b p = rw p refl
-
-or_right : (a b : Bool) → b ≡ true → a || b ≡ true
-or_right true b p = refl
-or_right false b p = p
 
 plain_decimal : (n : ℕ) → n < 2 ^ 64 → ltb (length (decimal n)) 2 || not (eqb (get_or (decimal n) 0 0) 48) ≡ true
 plain_decimal n small = elim (cases_lt n 10) [
@@ -174,7 +149,7 @@ found (Some x) f y e = (x, refl, e)
 hex_takes : (b d : ℕ) → hex_at b ≡ Some d → (b ≡ digit_glyph false d) × (d < 16)
 hex_takes b d e = elim (pick (leb 48 b && leb b 57) (Some (b - 48)) (cond (leb 97 b && leb b 102) (Some (b - 87)) None) (Some d) e) [
   | inl p ↦ (
-      let q = both (leb 48 b) (leb b 57) p.0 in
+      let q = and_parts (leb 48 b) (leb b 57) p.0 in
       let low : 48 ≤ b = leb-true _ _ q.0 in
       let high : b ≤ 57 = leb-true _ _ q.1 in
       let is : b - 48 ≡ d = some_is (b - 48) d p.1 in
@@ -182,7 +157,7 @@ hex_takes b d e = elim (pick (leb 48 b && leb b 57) (Some (b - 48)) (cond (leb 9
       (let h : b ≡ 48 + d = omega arith in h ∙ sym (ap (λ (t : Bool). cond t (48 + d) (87 + d)) small), omega arith))
   | inr r ↦ elim (pick (leb 97 b && leb b 102) (Some (b - 87)) None (Some d) r) [
     | inl p ↦ (
-        let q = both (leb 97 b) (leb b 102) p.0 in
+        let q = and_parts (leb 97 b) (leb b 102) p.0 in
         let low : 97 ≤ b = leb-true _ _ q.0 in
         let high : b ≤ 102 = leb-true _ _ q.1 in
         let is : b - 87 ≡ d = some_is (b - 87) d p.1 in
@@ -197,12 +172,12 @@ hex_again d small = elim (cases_lt d 10) [
   | inl few ↦ (
       let glyph : digit_glyph false d ≡ 48 + d = ap (λ (t : Bool). cond t (48 + d) (87 + d)) (lt-ltb d 10 few) in
       let back : 48 + d - 48 ≡ d = omega arith in
-      ap hex_at glyph ∙ ap (λ (t : Bool). cond t (Some (48 + d - 48)) (cond (leb 97 (48 + d) && leb (48 + d) 102) (Some (48 + d - 87)) None)) (both_are (leb 48 (48 + d)) (leb (48 + d) 57) (le-leb 48 (48 + d) (omega arith)) (le-leb (48 + d) 57 (omega arith))) ∙ ap Some back)
+      ap hex_at glyph ∙ ap (λ (t : Bool). cond t (Some (48 + d - 48)) (cond (leb 97 (48 + d) && leb (48 + d) 102) (Some (48 + d - 87)) None)) (and_from (leb 48 (48 + d)) (leb (48 + d) 57) (le-leb 48 (48 + d) (omega arith)) (le-leb (48 + d) 57 (omega arith))) ∙ ap Some back)
   | inr more ↦ (
       let glyph : digit_glyph false d ≡ 87 + d = ap (λ (t : Bool). cond t (48 + d) (87 + d)) (le-ltb d 10 more) in
       let back : 87 + d - 87 ≡ d = omega arith in
       ap hex_at glyph ∙ ap (λ (t : Bool). cond t (Some (87 + d - 48)) (cond (leb 97 (87 + d) && leb (87 + d) 102) (Some (87 + d - 87)) None)) (and_right (leb 48 (87 + d)) (leb (87 + d) 57) (lt-leb (87 + d) 57 (omega arith)))
-      ∙ ap (λ (t : Bool). cond t (Some (87 + d - 87)) None) (both_are (leb 97 (87 + d)) (leb (87 + d) 102) (le-leb 97 (87 + d) (omega arith)) (le-leb (87 + d) 102 (omega arith))) ∙ ap Some back)
+      ∙ ap (λ (t : Bool). cond t (Some (87 + d - 87)) None) (and_from (leb 97 (87 + d)) (leb (87 + d) 102) (le-leb 97 (87 + d) (omega arith)) (le-leb (87 + d) 102 (omega arith))) ∙ ap Some back)
 ]
 
 bytes_takes : (text bs : List ℕ) → bytes_at text ≡ Some bs → (text ≡ flat_map hex_pair bs) × AllByRecursion (λ b. b < 256) bs
@@ -244,7 +219,7 @@ value_takes text v e =
           let f = found (bytes_at text) (λ bytes. cond (ltb 0 (length bytes) && leb (length bytes) 64) (Some (padded_value bytes)) None) v q in
           let bs = f.0 in
           let g = cond_some (ltb 0 (length bs) && leb (length bs) 64) (padded_value bs) v f.2 in
-          let r = both (ltb 0 (length bs)) (leb (length bs) 64) g.0 in
+          let r = and_parts (ltb 0 (length bs)) (leb (length bs) 64) g.0 in
           let some : 0 < length bs = ltb-true _ _ r.0 in
           let few : length bs ≤ 64 = leb-true _ _ r.1 in
           let t = bytes_takes text bs f.1 in
@@ -275,7 +250,7 @@ value_again text v h =
           let said : value_text v ≡ flat_map hex_pair bs = ap (λ (b : Bool). cond b (codes "-") (flat_map hex_pair bs)) some in
           let read : bytes_at (flat_map hex_pair bs) ≡ Some bs = bytes_again bs h.1.bytes in
           let other : bytes_eq (flat_map hex_pair bs) (codes "-") ≡ false = long_pairs bs (omega (arith, len, more)) in
-          let inside : (ltb 0 (length bs) && leb (length bs) 64) ≡ true = both_are (ltb 0 (length bs)) (leb (length bs) 64) (lt-ltb 0 (length bs) (omega (arith, len, more))) (le-leb (length bs) 64 (omega (arith, len, h.1.few))) in
+          let inside : (ltb 0 (length bs) && leb (length bs) 64) ≡ true = and_from (ltb 0 (length bs)) (leb (length bs) 64) (lt-ltb 0 (length bs) (omega (arith, len, more))) (le-leb (length bs) 64 (omega (arith, len, h.1.few))) in
           let bytes : bs ++ replicate (64 - length bs) 0 ≡ v.bytes = ap (λ (n : ℕ). bs ++ replicate (64 - n) 0) len ∙ ap (λ (x : List ℕ). bs ++ x) (sym h.1.zeros) ∙ take-append-drop v.len v.bytes in
           ap value_at (h.0 ∙ said) ∙ rw (other, read) (ap (λ (b : Bool). cond b (Some (padded_value bs)) None) inside ∙ value_is v (length bs) (bs ++ replicate (64 - length bs) 0) len bytes))
     ]
@@ -284,9 +259,9 @@ value_again text v h =
 
 pub mask_takes : (text : List ℕ) (m : ℕ) → mask_at text ≡ Some m → Spells (Mask m) text
 mask_takes text m e = elim (pick (ltb 0 (length text) && leb (length text) 16) (hex_value 0 text) None (Some m) e) [
-  | inl p ↦ (let q = both (ltb 0 (length text)) (leb (length text) 16) p.0 in (ltb-true _ _ q.0, leb-true _ _ q.1, p.1))
+  | inl p ↦ (let q = and_parts (ltb 0 (length text)) (leb (length text) 16) p.0 in (ltb-true _ _ q.0, leb-true _ _ q.1, p.1))
   | inr q ↦ absurd cc
 ]
 
 pub mask_again : (text : List ℕ) (m : ℕ) → Spells (Mask m) text → mask_at text ≡ Some m
-mask_again text m h = rw (both_are (ltb 0 (length text)) (leb (length text) 16) (lt-ltb _ _ h.0) (le-leb _ _ h.1)) h.2
+mask_again text m h = rw (and_from (ltb 0 (length text)) (leb (length text) 16) (lt-ltb _ _ h.0) (le-leb _ _ h.1)) h.2

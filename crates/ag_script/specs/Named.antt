@@ -3,7 +3,11 @@ use Rattle.std.specs.Prelude.{ℕ, List, [], ◌∷◌, codes, Option, None, if�
 use Rattle.std.specs.Str.{bytes_eq}
 use Rattle.ag_model.specs.declared.config.Config.{Config}
 use Rattle.ag_model.specs.declared.event.Event.{Event}
-use Rattle.ag_script.specs.Shapes.{Shape, read, set_shape, begin_shape, get_shape, put_shape, del_shape, commit_shape, rollback_shape, trim_shape, harden_shape, ack_shape, send_shape, deliver_shape, repeat_shape, lose_shape, apply_shape, raise_shape, redo_shape, report_shape, read_shape, snap_shape, view_shape, close_shape, suspects_shape, page_shape, sectors_shape, status_shape, flush_shape, crash_shape, start_shape, spoil_shape, unread_shape, ask_shape, cut_shape, mend_shape, join_shape, resume_shape, sync_shape, timeout_shape, planned_shape, auto_shape, force_shape, finish_shape}
+use Rattle.ag_script.specs.Shapes.{Shape, read, set_shape, begin_shape, get_shape, put_shape, del_shape, commit_shape, rollback_shape, trim_shape}
+use Rattle.ag_script.specs.Shapes.{harden_shape, ack_shape, send_shape, deliver_shape, repeat_shape, lose_shape, apply_shape, raise_shape, redo_shape, report_shape, read_shape}
+use Rattle.ag_script.specs.Shapes.{snap_shape, view_shape, close_shape, suspects_shape, page_shape, sectors_shape, status_shape, flush_shape, crash_shape}
+use Rattle.ag_script.specs.Shapes.{start_shape, spoil_shape, unread_shape, ask_shape, cut_shape, mend_shape, join_shape, resume_shape}
+use Rattle.ag_script.specs.Shapes.{sync_shape, timeout_shape, planned_shape, auto_shape, force_shape, finish_shape}
 
 -- the event by the first shape that stands beside the name
 abbrev pub first_named : List (List ℕ × Shape) → List ℕ → List (List ℕ) → Option Event

@@ -1,5 +1,6 @@
 -- Reading one word.
-use Rattle.std.specs.Prelude.{◌≡◌, ℕ, ◌+◌, ◌-◌, ◌*◌, ◌^◌, ◌<◌, List, [], ◌∷◌, ◌++◌, length, replicate, codes, Option, Some, None, nat_lt, nat_le, ◌==◌, ◌&&◌, ◌||◌, if◌then◌else◌, Bool, true, false, not, get_or}
+use Rattle.std.specs.Prelude.{◌≡◌, ℕ, ◌+◌, ◌-◌, ◌*◌, ◌^◌, ◌<◌, List, [], ◌∷◌, ◌++◌}
+use Rattle.std.specs.Prelude.{length, replicate, codes, Option, Some, None, nat_lt, nat_le, ◌==◌, ◌&&◌, ◌||◌, if◌then◌else◌, Bool, true, false, not, get_or}
 use Rattle.std.specs.Str.{all_ascii_digits, bytes_eq}
 use Rattle.std.specs.Str.Parse.{digits_value}
 use Rattle.ag_model.specs.declared.config.Config.{Config}
@@ -35,7 +36,8 @@ IsDigits text = (all_ascii_digits text ≡ true) × (0 < length text) × (digits
 
 -- a number from low to high
 abbrev pub number_at : ℕ → ℕ → List ℕ → Option ℕ
-number_at low high text = if is_number text && nat_lt (digits_value 10 text) (2 ^ 64) && nat_le low (digits_value 10 text) && nat_le (digits_value 10 text) high then Some (digits_value 10 text) else None
+number_at low high text = if is_number text && nat_lt (digits_value 10 text) (2 ^ 64) && nat_le low (digits_value 10 text)
+    && nat_le (digits_value 10 text) high then Some (digits_value 10 text) else None
 
 -- a mask of 1 to 16 hex digits
 abbrev pub mask_at : List ℕ → Option ℕ

@@ -33,7 +33,8 @@ key_by texts = word_by (number_at 0 (2 ^ 32 - 1)) texts
 -- a pair for each key that comes next, but not more than so many
 abbrev pub some_pairs : ℕ → List (List ℕ) → Option (List Pair × List (List ℕ))
 some_pairs zero texts = Some ([], texts)
-some_pairs (suc most) texts = if is_some (key_by texts) then (key_by texts >>= λ k. word_by value_at k.1 >>= λ v. some_pairs most v.1 >>= λ more. Some (record { key = k.0; value = v.0 } ∷ more.0, more.1)) else Some ([], texts)
+some_pairs (suc most) texts =
+    if is_some (key_by texts) then (key_by texts >>= λ k. word_by value_at k.1 >>= λ v. some_pairs most v.1 >>= λ more. Some (record { key = k.0; value = v.0 } ∷ more.0, more.1)) else Some ([], texts)
 
 -- 1 to 8 pairs
 unfoldable pub pairs_at : List (List ℕ) → Option (List Pair × List (List ℕ))

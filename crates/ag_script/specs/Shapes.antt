@@ -6,7 +6,9 @@ use Rattle.ag_model.specs.declared.event.Pair.{Pair}
 use Rattle.ag_model.specs.declared.event.Who.{Who}
 use Rattle.ag_model.specs.declared.event.Suffix.{Suffix}
 use Rattle.ag_model.specs.declared.event.Event.{Event}
-use Rattle.ag_model.specs.declared.event.Event.TheVariants.{Begin, Get, Put, Del, Commit, Rollback, Set, Trim, Harden, Ack, Send, Deliver, Repeat, Lose, Apply, Raise, Redo, Read, Snap, View, Close, Report, Flush, Crash, Start, Spoil, Unread, Ask, Suspects, Page, Sectors, Status, Cut, Mend, Join, Resume, Sync, Timeout, Planned, Auto, Force, Finish}
+use Rattle.ag_model.specs.declared.event.Event.TheVariants.{Begin, Get, Put, Del, Commit, Rollback, Set, Trim, Harden, Ack, Send, Deliver, Repeat, Lose, Apply, Raise, Redo}
+use Rattle.ag_model.specs.declared.event.Event.TheVariants.{Read, Snap, View, Close, Report, Flush, Crash, Start, Spoil, Unread, Ask, Suspects, Page, Sectors, Status, Cut, Mend}
+use Rattle.ag_model.specs.declared.event.Event.TheVariants.{Join, Resume, Sync, Timeout, Planned, Auto, Force, Finish}
 use Rattle.ag_script.specs.Hex.{◌>>=◌}
 use Rattle.ag_script.specs.ReadWord.{who_at, other_at, number_at, value_at}
 use Rattle.ag_script.specs.ReadWords.{word_by, suffix_at, pairs_at}

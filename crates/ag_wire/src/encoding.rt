@@ -4,7 +4,8 @@ ghost use Rattle.std.specs.List.{flat_map};
 ghost use Rattle.std.specs.Int.{w16, w32, w64, to_be_bytes};
 ghost use Rattle.ag_record.specs.Lists.{Begins};
 ghost use Rattle.ag_record.specs.Spelling.{records_spelling, ArePayload};
-ghost use Rattle.ag_wire.specs.Spelling.{pair_spelling, ticket_spelling, start_spelling, starts_spelling, block_spelling, kind_of, fields_spelling, head_spelling, spelling, AreStarts, IsBlock, IsBody, HasSpelling};
+ghost use Rattle.ag_wire.specs.Spelling.{pair_spelling, ticket_spelling, start_spelling, starts_spelling, block_spelling};
+ghost use Rattle.ag_wire.specs.Spelling.{kind_of, fields_spelling, head_spelling, spelling, AreStarts, IsBlock, IsBody, HasSpelling};
 
 use ag_model::config::{TermStart, Ticket};
 use ag_model::message::{Block, Body, Message};
