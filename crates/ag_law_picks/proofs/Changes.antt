@@ -123,7 +123,6 @@ one-version log t c key h lsn u k change = elim (cases_Bool (eqb t u)) [
     by_key true = refl
     by_key false = refl
 
-
     by_gone : (gone : Bool) (w : Version) → eqb w.commit c ≡ false → map (λ (w : Version). row_of w.change) (filter (is_new key c) (cond gone [] (w ∷ []))) ≡ []
     by_gone true w e = refl
     by_gone false w e = (let none : is_new key c w ≡ false = and_right (eqb w.key key) (eqb w.commit c) e in rw none refl)
