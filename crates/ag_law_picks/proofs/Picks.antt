@@ -191,7 +191,6 @@ no_commit pages key n before r rest len other none row table is =
     let fails : AllByRecursion (λ w. is_new key (1 + n) w ≡ false) all = all_map (λ (w : Version). w.commit ≡ commit_of w.txn (numbered log)) (λ w. is_new key (1 + n) w ≡ false)
     (λ w e. and_right (eqb w.key key) (eqb w.commit (1 + n)) (ap (λ (c : ℕ). eqb c (1 + n)) e ∙ ap (λ (k : ℕ). eqb (commit_of w.txn (numbered log)) k) (sym len) ∙ nothing-new w.txn before r rest (other w.txn))) all (versions-committed pages (page_of pages key) log) in
     ap (λ (z : List Version). last_of row (map (λ w. row_of w.change) z)) (filter_none (is_new key (1 + n)) all fails) ∙ sym is ∙ ap (λ (z : List KeyChange). fold changed table z key) (sym none)
-  where
 
 a_commit : (pages key n t : ℕ) (listed : List ℕ) (before rest : List Record) → 1 + length before ≡ 1 + n → IsOpen t before → IsOver t rest → StepsAlike key n (all_versions pages (page_of pages key) (before ++ Commit t listed ∷ rest)) before (Commit t listed)
 a_commit pages key n t listed before rest len begun over row table is =
