@@ -11,7 +11,6 @@ use Rattle.ag_model.specs.declared.config.TermStart.{TermStart}
 use Rattle.ag_model.specs.declared.record.Log.{Log}
 use Rattle.ag_model.specs.declared.record.Record.{Record}
 use Rattle.ag_model.specs.declared.record.Record.TheVariants.{Put, Del, Commit, Abort, Trim, Term}
-use Rattle.ag_model.specs.declared.value.Value.{Value}
 use Rattle.ag_model.specs.Blocks.{with_block}
 use Rattle.ag_model.specs.Proper.{IsProper, IsRecordOf, RisesFrom}
 use Rattle.ag_model.specs.Rows.{page_of, page_numbers, touches, contains}

@@ -1,4 +1,4 @@
-use Rattle.std.proofs.Common.{◌≡◌, ℕ, ◌+◌, sym, subst, ◌∙◌, arith}
+use Rattle.std.proofs.Common.{ℕ, ◌+◌, sym, subst, ◌∙◌, arith}
 use Rattle.ag_model.specs.Blocks.{with_block}
 use Rattle.ag_model.specs.Proper.{IsProper}
 use Rattle.ag_threads_t.specs.Script.{IsScript}
