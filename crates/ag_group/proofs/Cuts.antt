@@ -3,7 +3,6 @@ use Rattle.std.proofs.Common.{◌≡◌, ℕ, ◌+◌, ◌-◌, List, [], length
 use Rattle.std.specs.Prelude.{Option, Some, None, slice_get, max, nat_lt, not, ◌==◌, ◌||◌, if◌then◌else◌}
 use Rattle.std.specs.List.{sum_by}
 use Rattle.std.proofs.lemmas.List.{set-get_or}
-use Rattle.std.proofs.lemmas.Bool.{cond-false}
 use Rattle.ag_model.specs.declared.event.Event.{Event}
 use Rattle.ag_model.specs.declared.event.Event.TheVariants.{Flush}
 use Rattle.ag_model.specs.declared.event.Who.{Who}
@@ -30,11 +29,15 @@ use Rattle.ag_node.proofs.Cutting.{uncut as uncut_part}
 use Rattle.ag_group.specs.Arrivals.{cut_arrival}
 use Rattle.ag_group.proofs.Lifts.{Doing, AsksNoModes, IsQuiet, unless_writes, unless_out}
 
+else_plan : (b : Bool) (x y : Plan) → b ≡ false → (if b then x else y) ≡ y
+else_plan true x y e = absurd cc
+else_plan false x y e = refl
+
 -- a plan that writes nothing is never cut
 pub uncut : (s : Suffix) (p : Plan) → p.writes ≡ [] → cut s p ≡ p
 uncut Whole p e = refl
-uncut (Stop w mask) p e = cond-false (nat_lt (w - 1) (length (all_writes p.writes))) (stopped (w - 1) mask p (stopped_disk mask (w - 1) (disk_before p) p.writes)) p (ap (λ (ws : List Batch). nat_lt (w - 1) (length (all_writes ws))) e ∙ not_below (w - 1))
-uncut (Fail c) p e = cond-false (nat_lt (c - 1) (sum_by (λ b. length b + 1) p.writes)) (failed (c - 1) p) p (ap (λ (ws : List Batch). nat_lt (c - 1) (sum_by (λ b. length b + 1) ws)) e ∙ not_below (c - 1))
+uncut (Stop w mask) p e = else_plan (nat_lt (w - 1) (length (all_writes p.writes))) (stopped (w - 1) mask p (stopped_disk mask (w - 1) (disk_before p) p.writes)) p (ap (λ (ws : List Batch). nat_lt (w - 1) (length (all_writes ws))) e ∙ not_below (w - 1))
+uncut (Fail c) p e = else_plan (nat_lt (c - 1) (sum_by (λ b. length b + 1) p.writes)) (failed (c - 1) p) p (ap (λ (ws : List Batch). nat_lt (c - 1) (sum_by (λ b. length b + 1) ws)) e ∙ not_below (c - 1))
 
 pub uncut_done : (g : Group) (e : Event) → (plan_of g e).writes ≡ [] → done g e ≡ plan_of g e
 unfolding done
@@ -113,7 +116,7 @@ refused_after g n why = λ i. record g { replicas = set-get_or g.replicas n nobo
 -- the delivery of what was found
 pub found_is : (g : Group) (n m i : ℕ) (repeats : Bool) (found : Option Message) → (n == m) ≡ false → slice_get (link g n m) (i - 1) ≡ found → apart g n m (plan_of_deliver g n m i repeats) ≡ plan_of_message g n m i repeats found
 unfolding plan_of_deliver
-found_is g n m i repeats found two is = cond-false (n == m) (at_node g n (refused Nothing (replica g n))) (plan_of_deliver g n m i repeats) two ∙ ap (plan_of_message g n m i repeats) is
+found_is g n m i repeats found two is = else_plan (n == m) (at_node g n (refused Nothing (replica g n))) (plan_of_deliver g n m i repeats) two ∙ ap (plan_of_message g n m i repeats) is
 
 pub none_answer : (s : Suffix) (g : Group) (n m i : ℕ) (repeats : Bool) → (n == m) ≡ false → slice_get (link g n m) (i - 1) ≡ None → No (NoMessage n m) ≡ (cut s (apart g n m (plan_of_deliver g n m i repeats))).answer
 none_answer s g n m i repeats two is =

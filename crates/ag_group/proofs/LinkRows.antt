@@ -2,7 +2,6 @@
 use Rattle.std.proofs.Common.{◌≡◌, ℕ, ◌<◌, List, [], length, get_or, set, ap, ◌∙◌}
 use Rattle.std.specs.Prelude.{Option}
 use Rattle.std.proofs.lemmas.List.{length-set, get_or_read}
-use Rattle.ag_lists.proofs.Each.{all_at, all_set}
 use Rattle.ag_model.specs.declared.config.Config.{Config}
 use Rattle.ag_model.specs.declared.config.Register.{Register}
 use Rattle.ag_model.specs.declared.config.Token.{Token}
@@ -11,11 +10,13 @@ use Rattle.ag_rules.specs.Group.{Group, link, with_link}
 use Rattle.ag_node.specs.Seen.{NodeView}
 use Rattle.ag_group.specs.Groups.{IsGroup}
 use Rattle.ag_group.specs.Seen.{group_of}
+use Rattle.ag_group.proofs.Nodes.{all_with}
+use Rattle.ag_group.proofs.Runs.{every_at}
 
 module _ (c : Config) (nodes : List NodeView) (links : List (List (List Message))) (register : Register) (n : ℕ) (row : List (List Message)) (within : n < length links) (found : row ≡ get_or links n row) where
   -- a node of a group has a link to each
   pub columns_at : (sessions : ℕ) → IsGroup c nodes links register sessions → length row ≡ length c.modes
-  columns_at sessions g = ap (λ (r : List (List Message)). length r) found ∙ all_at (λ (r : List (List Message)). length r ≡ length c.modes) links n row g.columns within
+  columns_at sessions g = ap (λ (r : List (List Message)). length r) found ∙ every_at (λ (r : List (List Message)). length r ≡ length c.modes) links n row g.columns within
 
   -- a group in which the links of one node are as many others
   pub group_with_row : (sessions : ℕ) → IsGroup c nodes links register sessions → (new : List (List Message)) → length new ≡ length row → IsGroup c nodes (set links n new) register sessions
@@ -24,7 +25,7 @@ module _ (c : Config) (nodes : List NodeView) (links : List (List (List Message)
     each = g.each;
     pages = g.pages;
     rows = length-set links n new ∙ g.rows;
-    columns = all_set (λ (r : List (List Message)). length r ≡ length c.modes) links n new g.columns (same ∙ columns_at sessions g);
+    columns = all_with (λ (r : List (List Message)). length r ≡ length c.modes) links n new g.columns (same ∙ columns_at sessions g);
     primary = g.primary;
     term = g.term;
     tokens = g.tokens;

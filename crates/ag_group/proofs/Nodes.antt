@@ -5,7 +5,6 @@ use Rattle.std.specs.List.{AllByRecursion}
 use Rattle.std.proofs.Math.ListN.{get_or-map}
 use Rattle.std.proofs.lemmas.List.{get_or-map as get_or-map_at}
 use Rattle.std.proofs.lemmas.List.{map-set, length-map, length-set, get_or-set_same}
-use Rattle.ag_lists.proofs.Each.{all_at, all_set}
 use Rattle.ag_model.specs.declared.config.Config.{Config}
 use Rattle.ag_model.specs.declared.config.Register.{Register}
 use Rattle.ag_model.specs.declared.config.Token.{Token}
@@ -20,6 +19,7 @@ use Rattle.ag_group.specs.declared.fault.StepFault.TheVariants.{NoMemory, DiskFa
 use Rattle.ag_group.specs.Faults.{fault_of, IsCounted, IsLawful}
 use Rattle.ag_group.specs.Groups.{IsGroup}
 use Rattle.ag_group.specs.Seen.{replicas_of, faults_of, group_of}
+use Rattle.ag_group.proofs.Runs.{every_at}
 
 pub count_is : (nodes : List NodeView) → length (replicas_of nodes) ≡ length nodes
 count_is nodes = length-map nodes (λ (x : NodeView). x.replica)
@@ -66,17 +66,23 @@ counted before nodes n n' old new e told within at found same is risen k names =
     ∙ ap (λ (fs : List ℕ). get_or fs k 0) (sym (map-set (λ (x : NodeView). x.faults) nodes n' new)) in
     subst (λ (b : ℕ). HasRisen b (get_or (faults_of (set nodes n' new)) k 0)) was (subst (λ (b : ℕ). HasRisen old.faults b) is_now (risen disk.0))
 
+-- what holds of each node holds of each once another one that meets it is in the place of one
+pub all_with : {X : Type 0} (P : X → Type 0) (xs : List X) (n : ℕ) (x : X) → AllByRecursion P xs → P x → AllByRecursion P (set xs n x)
+all_with P [] n x all here = tt
+all_with P (y ∷ ys) zero x all here = (here, all.1)
+all_with P (y ∷ ys) (suc n) x all here = (all.0, all_with P ys n x all.1 here)
+
 module _ (c : Config) (nodes : List NodeView) (links : List (List (List Message))) (register : Register) (sessions : ℕ) (g : IsGroup c nodes links register sessions) (n : ℕ) (old : NodeView) (within : n < length nodes) (found : old ≡ get_or nodes n old) where
   -- a node of a group has the pages of the config
   pub pages_at : length old.replica.pages ≡ c.pages
-  pages_at = ap (λ (x : NodeView). length x.replica.pages) found ∙ all_at (λ (x : NodeView). length x.replica.pages ≡ c.pages) nodes n old g.pages within
+  pages_at = ap (λ (x : NodeView). length x.replica.pages) found ∙ every_at (λ (x : NodeView). length x.replica.pages ≡ c.pages) nodes n old g.pages within
 
   -- a group of which one node is another one with as many pages
   pub group_with : (new : NodeView) → length new.replica.pages ≡ length old.replica.pages → IsGroup c (set nodes n new) links register sessions
   group_with new same = record {
     settings = g.settings;
     each = length-set nodes n new ∙ g.each;
-    pages = all_set (λ (x : NodeView). length x.replica.pages ≡ c.pages) nodes n new g.pages (same ∙ pages_at);
+    pages = all_with (λ (x : NodeView). length x.replica.pages ≡ c.pages) nodes n new g.pages (same ∙ pages_at);
     rows = g.rows;
     columns = g.columns;
     primary = g.primary;

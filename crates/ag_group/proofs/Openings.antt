@@ -42,6 +42,12 @@ one_more_node c before after h is push =
 pub all_nodes : (c : Config) (nodes : List NodeView) → length nodes ≡ length c.modes → replicas_of nodes ≡ take (length nodes) (opening_replicas c c.modes) → replicas_of nodes ≡ opening_replicas c c.modes
 all_nodes c nodes h is = is ∙ take_all (length nodes) (opening_replicas c c.modes) (omega (arith, h, count_of_all c c.modes))
 
+-- what holds of each holds of each after so many
+pub all_dropped : {A : Type 0} (P : A → Type 0) (k : ℕ) (xs : List A) → AllByRecursion P xs → AllByRecursion P (drop k xs)
+all_dropped P zero xs h = h
+all_dropped P (suc k) [] h = tt
+all_dropped P (suc k) (x ∷ xs) h = all_dropped P k xs h.1
+
 -- the next disk is the one of this number
 pub next_fault : {A : Type 0} (f : A → ℕ) (k : ℕ) (all left : List A) → left ≡ drop k all → get_or (map f left) 0 0 ≡ get_or (map f all) k 0
 next_fault f k all left is =

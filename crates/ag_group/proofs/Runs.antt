@@ -19,6 +19,12 @@ use Rattle.ag_transcript.specs.Answers.{answer_text}
 use Rattle.ag_law_logs.specs.Reached.{after_events, after_more}
 use Rattle.ag_group.specs.Ran.{HasRun, HasRunInPart}
 
+-- what holds of each item holds of the one at an index
+pub every_at : {X : Type 0} (P : X → Type 0) (xs : List X) (i : ℕ) (d : X) → AllByRecursion P xs → i < length xs → P (get_or xs i d)
+every_at P [] i d h lt = absurd (omega (arith, lt))
+every_at P (x ∷ xs) zero d h lt = h.0
+every_at P (x ∷ xs) (suc i) d h lt = every_at P xs i d h.1 (omega (arith, lt))
+
 -- the answers to events, from a group on
 abbrev pub answers_from : Group → List Event → List Answer
 answers_from g es = map (λ m. m.answer) (moments_from g es)

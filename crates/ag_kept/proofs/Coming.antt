@@ -143,6 +143,10 @@ pub on_ok : {X E : Type 0} {P : X → Type 0} {Q : Type 0} (r : Result X E) → 
 on_ok (Ok x) h f = f x h
 on_ok (Err e) h f = tt
 
+pub always_ok : {X E : Type 0} {Q : Type 0} (r : Result X E) → Q → OnOk r Q
+always_ok (Ok x) q = q
+always_ok (Err e) q = tt
+
 module _ {D : Type 0} (keeps : D → Bool) (reads : D → Image) (may_hold : D → ℕ → Content → Type 0) (faults : D → ℕ) (old armed new : ScriptedView D) (s : StoreView) (b : Stored) (suffix : Suffix) (order : Arm)
     (is : armed ≡ ordered old order) (order_is : order ≡ order_of suffix) (unsynced : old.unsynced ≡ []) (k : IsTrue (keeps old.disk)) (cur : IsCurrent (reads_of reads old) s) (f : Follows s b) where
   abbrev its_piece : Piece

@@ -2,7 +2,6 @@
 use Rattle.std.proofs.Common.{◌≡◌, ℕ, zero, suc, ◌+◌, ◌≤◌, List, [], ◌∷◌, length, Bool, if◌then◌else◌, refl, sym, ap, ◌∙◌, arith, inl, inr}
 use Rattle.std.proofs.lemmas.List.{length-append}
 use Rattle.std.proofs.lemmas.List.Concat.{flat_map-cons}
-use Rattle.std.proofs.lemmas.Bool.{cases_Bool}
 use Rattle.ag_model.specs.Sizes.{block_sectors}
 use Rattle.ag_model.specs.declared.record.Record.{Record}
 use Rattle.ag_model.specs.declared.record.Log.{Log}
@@ -20,6 +19,7 @@ use Rattle.ag_logstore.proofs.Standing.{writable, some_sectors, block_says, coun
 use Rattle.ag_logstore.proofs.Chains.{places_within, none_follows}
 use Rattle.ag_kept.specs.LogOn.{then_records, records_in, candidate, blocks_on, is_next, most_blocks, log_on}
 use Rattle.ag_kept.proofs.Deciding.{next_tells}
+use Rattle.ag_kept.proofs.Stops.{decide}
 
 -- records that are spelled so are found
 records_again : (n : ℕ) (rs : List Record) → HaveSpelling rs → length rs ≤ n → records_in n (records_spelling rs) ≡ rs
@@ -72,7 +72,7 @@ module _ (image : Image) (cut incarnation : ℕ) where
   blocks_are zero p (b ∷ bs) st few none = absurd (omega (arith, few))
   blocks_are (suc n) p [] st few none =
       let c = candidate image p.sector in
-      elim (cases_Bool (is_next image cut incarnation p c)) [
+      elim (decide (is_next image cut incarnation p c)) [
         | inl yes_ ↦ absurd (none c ((next_tells image cut incarnation p c).0 yes_))
         | inr no_ ↦ one_step n p ∙ ap (λ (go : Bool). chosen go n p c) no_
       ]

@@ -1,7 +1,7 @@
 -- How far an event comes, by what stopped it.
 use Rattle.std.proofs.Common.{◌≡◌, ℕ, suc, ◌+◌, ◌-◌, ◌^◌, ◌<◌, ◌≤◌, min, max, List, [], ◌∷◌, length, Bool, true, false, leb, eqb, if◌then◌else◌, refl, sym, ap, ◌∙◌, subst, arith, inl, inr}
 use Rattle.std.specs.List.{list_all, range_with_len}
-use Rattle.std.proofs.lemmas.Bool.{cases_lt, le-leb, lt-leb, eq-eqb, ne_eqb, cases_Bool}
+use Rattle.std.proofs.lemmas.Bool.{cases_lt, le-leb, lt-leb, eq-eqb, ne_eqb}
 use Rattle.ag_model.specs.declared.event.Suffix.{Suffix}
 use Rattle.ag_model.specs.declared.event.Suffix.TheVariants.{Whole, Stop as StopAt, Fail}
 use Rattle.ag_model.specs.Cells.{keeps, keeps_all}
@@ -11,7 +11,7 @@ use Rattle.ag_outside.specs.Disks.{writes}
 use Rattle.ag_outside.specs.Scripts.{kept}
 use Rattle.ag_kept.specs.declared.reach.Reach.TheVariants.{End, Stop, Fault}
 use Rattle.ag_kept.specs.Reaching.{how_far, order_of}
-use Rattle.ag_kept.proofs.Stops.{not_all, kept_whole}
+use Rattle.ag_kept.proofs.Stops.{decide, not_all, kept_whole}
 
 same_stop : (w v m n : ℕ) → StopOrder w m ≡ StopOrder v n → (w ≡ v) × (m ≡ n)
 same_stop w v m n e = (number e, mask e)
@@ -84,7 +84,7 @@ length-writes at (s ∷ ss) = ap suc (length-writes (suc at) ss)
 
 -- all were kept exactly where as many were kept as were written
 pub count_tells : (mask at n count : ℕ) (ss : List (List ℕ)) → length ss ≡ n → n ≤ 32 → count ≡ min (length (kept mask 0 (writes at ss))) (2 ^ 32 - 1) → eqb count n ≡ keeps_all mask 0 n
-count_tells mask at n count ss long few is = elim (cases_Bool (keeps_all mask 0 n)) [
+count_tells mask at n count ss long few is = elim (decide (keeps_all mask 0 n)) [
   | inl all ↦
       let each = kept_whole mask 0 at ss (subst (λ k. keeps_all mask 0 k ≡ true) (sym long) all) in
       let same : count ≡ n = omega (arith, is, ap length each, length-writes at ss, long, few) in

@@ -2,7 +2,7 @@
 use Rattle.std.proofs.Common.{◌≡◌, ◌⊎◌, ℕ, suc, ◌+◌, ◌<◌, ◌≤◌, List, [], ◌∷◌, length, Bool, true, false, if◌then◌else◌, refl, sym, ap, ◌∙◌, subst, arith, inl, inr}
 use Rattle.std.specs.Prelude.{◌&&◌}
 use Rattle.std.specs.List.{list_all, range_with_len}
-use Rattle.std.proofs.lemmas.Bool.{and_parts, cases_Bool}
+use Rattle.std.proofs.lemmas.Bool.{and_parts}
 use Rattle.ag_model.specs.Cells.{keeps, keeps_all}
 use Rattle.ag_outside.specs.declared.disk.SectorWrite.{SectorWrite}
 use Rattle.ag_outside.specs.Disks.{Content, Image, writes, put, put_all, WroteSo}
@@ -93,13 +93,17 @@ one_dropped image mask from at (s ∷ ss) h =
           }
     ]
 
+pub decide : (b : Bool) → (b ≡ true) ⊎ (b ≡ false)
+decide true = inl refl
+decide false = inr refl
+
 -- the law of a stop
 pub stopped_log : (image : Image) (s : StoreView) (b : Stored) (mask : ℕ) → IsCurrent image s → Follows s b → IsLogOf (stopped_image image s b mask) s.cut s.incarnation (log_where (keeps_block mask b) s b)
 stopped_log image s b mask cur f =
     let at = sector_after s.log in
     let ss = sectors_of b in
     let count = count_of_block b (is_writable s b f) in
-    elim (cases_Bool (keeps_block mask b)) [
+    elim (decide (keeps_block mask b)) [
       | inl all ↦
           let kept_all = kept_whole mask 0 at ss (subst (λ n. keeps_all mask 0 n ≡ true) (sym count) all) in
           let log = whole image (put_all image (writes at ss)) s b cur f (torn_by_writes image at ss) (put_stands image at ss) in

@@ -1,5 +1,5 @@
 -- A part that is cut by a suffix.
-use Rattle.std.proofs.lemmas.Bool.{cases_Bool, leb-true, cond-false}
+use Rattle.std.proofs.lemmas.Bool.{cases_Bool, leb-true}
 use Rattle.std.proofs.lemmas.Bool.Decides.{nat_tests}
 use Rattle.std.proofs.Common.{inl, inr, ◌⊎◌, ◌≤◌, ◌≡◌, ℕ, zero, suc, ◌+◌, ◌-◌, List, [], ◌∷◌, length, Bool, true, false, refl, sym, ap, ◌∙◌, arith}
 use Rattle.std.specs.Prelude.{nat_lt, nat_le, not, ◌&&◌, if◌then◌else◌}
@@ -21,11 +21,15 @@ use Rattle.ag_node.proofs.StartSteps.{not_below}
 use Rattle.ag_kept.specs.Reaching.{how_far}
 use Rattle.ag_node.specs.Reaching.{part_reached}
 
+if_false : (b : Bool) (x y : Part) → b ≡ false → (if b then x else y) ≡ y
+if_false true x y e = absurd cc
+if_false false x y e = refl
+
 -- a part that writes nothing is never cut
 pub uncut : (pages n : ℕ) (s : Suffix) (r : Replica) (part : Part) → part.writes ≡ [] → cut_part pages n s r part ≡ part
 uncut pages n Whole r part e = refl
-uncut pages n (Stop w mask) r part e = cond-false (nat_lt (w - 1) (length (all_writes part.writes))) (stopped_part pages (w - 1) mask r part) part (ap (λ (ws : List Batch). nat_lt (w - 1) (length (all_writes ws))) e ∙ not_below (w - 1))
-uncut pages n (Fail c) r part e = cond-false (nat_lt (c - 1) (sum_by (λ b. length b + 1) part.writes)) (failed_part n (c - 1) r part) part (ap (λ (ws : List Batch). nat_lt (c - 1) (sum_by (λ b. length b + 1) ws)) e ∙ not_below (c - 1))
+uncut pages n (Stop w mask) r part e = if_false (nat_lt (w - 1) (length (all_writes part.writes))) (stopped_part pages (w - 1) mask r part) part (ap (λ (ws : List Batch). nat_lt (w - 1) (length (all_writes ws))) e ∙ not_below (w - 1))
+uncut pages n (Fail c) r part e = if_false (nat_lt (c - 1) (sum_by (λ b. length b + 1) part.writes)) (failed_part n (c - 1) r part) part (ap (λ (ws : List Batch). nat_lt (c - 1) (sum_by (λ b. length b + 1) ws)) e ∙ not_below (c - 1))
 
 -- no page is torn where none was written
 none_torn : (k : Kept) (ps : List ℕ) → filter (λ p. contains p [] && not (is_sound (image k p))) ps ≡ []

@@ -7,8 +7,6 @@ use Rattle.std.proofs.Math.Seq.{set-append_seam}
 use Rattle.std.proofs.lemmas.Bool.{cases_Bool}
 use Rattle.std.proofs.lemmas.Grind.{fold-append}
 use Rattle.std.proofs.lemmas.List.{append-nil, length-append}
-use Rattle.std.proofs.lemmas.List.Concat.{concat_is}
-use Rattle.ag_pages.proofs.Outcomes.{by_eights-all}
 use Rattle.ag_model.specs.declared.answer.Cell.{Cell}
 use Rattle.ag_model.specs.Cells.{written_cells}
 use Rattle.ag_model.specs.Rows.{contains, page_numbers}
@@ -29,8 +27,28 @@ use Rattle.ag_node.proofs.StripesOf.{all_applied, shown_up}
 abbrev all_of : List (List ℕ) → List ℕ
 all_of bs = flat_map (λ (b : List ℕ). b) bs
 
+all_more : (bs cs : List (List ℕ)) → all_of (bs ++ cs) ≡ all_of bs ++ all_of cs
+all_more [] cs = refl
+all_more (b ∷ bs) cs = ap (λ (l : List ℕ). b ++ l) (all_more bs cs) ∙ sym (append_assoc b (all_of bs) (all_of cs))
+
+all_last : (bs : List (List ℕ)) (last : List ℕ) → all_of (bs ++ unless_none last) ≡ all_of bs ++ last
+all_last bs [] = all_more bs []
+all_last bs (p ∷ ps) = all_more bs ((p ∷ ps) ∷ []) ∙ ap (λ (l : List ℕ). all_of bs ++ l) (append-nil (p ∷ ps))
+
+one_batched : (b : Batching) (p : ℕ) → all_of (batch_with b p).full ++ (batch_with b p).last ≡ (all_of b.full ++ b.last) ++ p ∷ []
+one_batched b p = by_room (nat_lt (length b.last) 8)
+  where
+    by_room : (room : Bool) → (let x : Batching = if room then record b { last = b.last ++ p ∷ [] } else record { full = b.full ++ b.last ∷ []; last = p ∷ [] } in all_of x.full ++ x.last) ≡ (all_of b.full ++ b.last) ++ p ∷ []
+    by_room true = sym (append_assoc (all_of b.full) b.last (p ∷ []))
+    by_room false = ap (λ (l : List ℕ). l ++ p ∷ []) (all_more b.full (b.last ∷ []) ∙ ap (λ (l : List ℕ). all_of b.full ++ l) (append-nil b.last))
+
+some_batched : (ps : List ℕ) (b : Batching) → all_of (batched (fold batch_with b ps)) ≡ (all_of b.full ++ b.last) ++ ps
+some_batched [] b = all_last b.full b.last ∙ sym (append-nil (all_of b.full ++ b.last))
+some_batched (p ∷ ps) b = some_batched ps (batch_with b p) ∙ ap (λ (l : List ℕ). l ++ ps) (one_batched b p) ∙ append_assoc (all_of b.full ++ b.last) (p ∷ []) ps
+
 all_batched : (ps : List ℕ) → all_of (by_eights ps) ≡ ps
-all_batched ps = sym (concat_is (by_eights ps)) ∙ by_eights-all ps
+unfolding by_eights
+all_batched ps = some_batched ps (record { full = []; last = [] })
 
 -- the writes of pages
 

@@ -19,7 +19,7 @@ use Rattle.ag_node.specs.Homes.{Home}
 use Rattle.ag_node.specs.View.{node_of, stripes_in}
 use Rattle.ag_node.specs.Room.{IsSetLog, first_full, used_after, unless_some}
 use Rattle.ag_node.specs.Nodes.{IsNode, leading_of}
-use Rattle.ag_node.proofs.NodeSteps.{pages_are, no_writes}
+use Rattle.ag_node.proofs.NodeSteps.{pages_are}
 use Rattle.ag_node.proofs.Quiet.{access_is_free}
 use Rattle.ag_logstore.proofs.Fitting.{fit_append}
 use Rattle.ag_built.specs.Whole.{IsWhole}
@@ -93,7 +93,11 @@ node_after_set h published buffer buffer' new bytes bytes' txn txn' used used' p
       small = small;
     }
 
+sets_nothing : (b : Bool) (x y : Part) → x.writes ≡ [] → y.writes ≡ [] → (if b then x else y).writes ≡ []
+sets_nothing true x y p q = p
+sets_nothing false x y p q = q
+
 -- `set` writes nothing
 pub set_nothing : (n : Replica) (part : Part) (full : Option Refusal) (new : List Record) → part ≡ unless_some full n (sets n new) → part.writes ≡ []
-set_nothing n part None new e = ap (λ (x : Part). x.writes) e ∙ no_writes _ (refused (buffer_is_full n new).refusal n) (at_once (Lsn (full_end n + length new)) (with_set n new)) refl refl
+set_nothing n part None new e = ap (λ (x : Part). x.writes) e ∙ sets_nothing _ (refused (buffer_is_full n new).refusal n) (at_once (Lsn (full_end n + length new)) (with_set n new)) refl refl
 set_nothing n part (Some why) new e = ap (λ (x : Part). x.writes) e

@@ -196,7 +196,7 @@ read_left h ss leading r here key is home =
     ∙ same_after (nat_lt (front_of ss) horizon) (refused (TooOld (front_of ss) horizon) n) (at_once (row_answer (front_of ss) (rows h.log.records (front_of ss) key)) n) n refl refl
     ∙ is
 
-pub no_writes : (b : Bool) (x y : Part) → x.writes ≡ [] → y.writes ≡ [] → (if b then x else y).writes ≡ []
+no_writes : (b : Bool) (x y : Part) → x.writes ≡ [] → y.writes ≡ [] → (if b then x else y).writes ≡ []
 no_writes true x y p q = p
 no_writes false x y p q = q
 

@@ -9,7 +9,6 @@ use Rattle.std.proofs.lemmas.List.Sums.{sum_by-append}
 use Rattle.std.proofs.Math.Bool.{or-false}
 use Rattle.std.proofs.lemmas.List.Concat.{flat_map-append}
 use Rattle.std.proofs.lemmas.List.Folds.{list_any-append}
-use Rattle.ag_lists.proofs.Each.{all_map, all_append}
 use Rattle.ag_model.specs.declared.value.Change.{Change}
 use Rattle.ag_model.specs.declared.value.Change.TheVariants.{Put as PutChange, Del as DelChange}
 use Rattle.ag_model.specs.declared.value.Version.{Version}
@@ -163,6 +162,14 @@ added_size pages page n txn all (pair ∷ pairs) listed a =
     ∙ ap (λ b. (if b then pair_size pair else 0) + versions_size (added pages page (n + 1) all txn pairs listed)) (eqb_turn page (page_of pages pair.key))
     ∙ ap (λ x. bytes_on pages page pair + x) (added_size pages page (n + 1) txn all pairs listed a)
     ∙ sym (taken_on_cons pages page pair pairs)
+
+pub all_map : {X : Type 0} (P Q : X → Type 0) → ((x : X) → P x → Q x) → (xs : List X) → AllByRecursion P xs → AllByRecursion Q xs
+all_map P Q f [] p = tt
+all_map P Q f (x ∷ xs) p = (f x p.0, all_map P Q f xs p.1)
+
+pub all_append : {X : Type 0} (P : X → Type 0) (xs ys : List X) → AllByRecursion P xs → AllByRecursion P ys → AllByRecursion P (xs ++ ys)
+all_append P [] ys p q = q
+all_append P (x ∷ xs) ys p q = (p.0, all_append P xs ys p.1 q)
 
 known_new : (txn : ℕ) (pairs : List Pair) (listed : List ℕ) → KnownTo txn (new_of txn pairs listed)
 known_new txn [] listed = ((omega arith, tt), tt)

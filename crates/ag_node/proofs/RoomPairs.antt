@@ -2,7 +2,7 @@
 use Rattle.std.proofs.Common.{◌≡◌, ℕ, ◌+◌, ◌-◌, ◌%◌, ◌<◌, ◌≤◌, List, [], ◌∷◌, ◌++◌, length, get_or, Bool, true, false, refl, sym, ap, ◌∙◌, subst, arith, length-append}
 use Rattle.std.specs.Prelude.{if◌then◌else◌, ◌==◌, ◌&&◌, ◌||◌, not, nat_lt, Option, Some}
 use Rattle.std.specs.List.{filter, list_any}
-use Rattle.std.proofs.lemmas.Bool.{false≢true, or_parts}
+use Rattle.std.proofs.lemmas.Bool.{false≢true}
 use Rattle.std.proofs.Math.Bool.{and-false}
 use Rattle.std.proofs.lemmas.List.{take_all}
 use Rattle.ag_model.specs.declared.value.Version.{Version}
@@ -21,6 +21,10 @@ use Rattle.ag_rules.specs.Access.{access}
 use Rattle.ag_rules.specs.PutEvent.{holders, first_txn}
 use Rattle.ag_rules.specs.SetEvent.{pair_size, taken_on, checks_of_pair, pairs_pass}
 use Rattle.ag_node.specs.Room.{is_trim, IsSetLog, room_left, first_full, unless_some}
+
+none_of_both : (a b : Bool) → (a || b) ≡ false → (a ≡ false) × (b ≡ false)
+none_of_both true b e = absurd (false≢true (sym e))
+none_of_both false b e = (refl, e)
 
 -- a log with no Trim has no horizons
 no_horizons : (page : ℕ) (log : List Record) → list_any is_trim log ≡ false → horizons page log ≡ []
@@ -49,7 +53,7 @@ untrimmed_versions pages page n log e h =
 no_holders : (txn key : ℕ) (vs : List Version) → list_any (λ v. v.commit == 0) vs ≡ false → holders txn key vs ≡ []
 no_holders txn key [] e = refl
 no_holders txn key (v ∷ vs) e =
-    let parts : ((v.commit == 0) ≡ false) × (list_any (λ v. v.commit == 0) vs ≡ false) = or_parts _ _ e in
+    let parts : ((v.commit == 0) ≡ false) × (list_any (λ v. v.commit == 0) vs ≡ false) = none_of_both _ _ e in
     ap (λ b. if (v.key == key) && (b && not (v.txn == txn)) then v ∷ holders txn key vs else holders txn key vs) parts.0
     ∙ ap (λ b. if b then v ∷ holders txn key vs else holders txn key vs) (and-false (v.key == key))
     ∙ no_holders txn key vs parts.1

@@ -5,7 +5,6 @@ use Rattle.std.specs.List.{filter, list_any, range_with_len, AllByRecursion}
 use Rattle.std.proofs.lemmas.Bool.{cases_Bool, cases_lt, eq-eqb, false≢true}
 use Rattle.std.proofs.lemmas.Nat.{mod_below}
 use Rattle.std.proofs.lemmas.List.{take_more, map-append}
-use Rattle.ag_lists.proofs.Each.{all_push}
 use Rattle.ag_model.specs.declared.record.Record.{Record}
 use Rattle.ag_model.specs.declared.record.Record.TheVariants.{Put, Commit}
 use Rattle.ag_model.specs.declared.event.Pair.{Pair}
@@ -21,10 +20,15 @@ puts_fit : (txn : ℕ) (pairs : List Pair) → txn < 2 ^ 64 → AllByRecursion I
 puts_fit txn [] t p k = tt
 puts_fit txn (pair ∷ pairs) t p k = ((t, k.0, p.0), puts_fit txn pairs t p.1 k.1)
 
+-- one more pair: its Put, and its key
+all_more : {X : Type 0} (P : X → Type 0) (xs : List X) (x : X) → AllByRecursion P xs → P x → AllByRecursion P (xs ++ x ∷ [])
+all_more P [] x p q = (q, tt)
+all_more P (y ∷ xs) x p q = (p.0, all_more P xs x p.1 q)
+
 pub keys_more : (pairs : List Pair) (i : ℕ) (d : Pair) → i < length pairs → AllByRecursion (λ (pair : Pair). pair.key < 2 ^ 32) (take i pairs) → (get_or pairs i d).key < 2 ^ 32
     → AllByRecursion (λ (pair : Pair). pair.key < 2 ^ 32) (take (i + 1) pairs)
 keys_more pairs i d l p k =
-    subst (AllByRecursion (λ (pair : Pair). pair.key < 2 ^ 32)) (sym (take_more pairs i d l)) (all_push (λ (pair : Pair). pair.key < 2 ^ 32) (take i pairs) (get_or pairs i d) p k)
+    subst (AllByRecursion (λ (pair : Pair). pair.key < 2 ^ 32)) (sym (take_more pairs i d l)) (all_more (λ (pair : Pair). pair.key < 2 ^ 32) (take i pairs) (get_or pairs i d) p k)
 
 pub puts_more : (txn : ℕ) (pairs : List Pair) (i : ℕ) (d : Pair) (before after : List Record) (r : Record) → i < length pairs → before ≡ map (λ (pair : Pair). Put txn pair.key pair.value) (take i pairs)
     → r ≡ Put txn (get_or pairs i d).key (get_or pairs i d).value → after ≡ before ++ r ∷ [] → after ≡ map (λ (pair : Pair). Put txn pair.key pair.value) (take (i + 1) pairs)

@@ -6,7 +6,6 @@ use Rattle.std.specs.List.{filter, list_any}
 use Rattle.std.proofs.lemmas.Bool.{le-leb, false_from_ne_true, ltb-true}
 use Rattle.std.proofs.lemmas.List.{append-nil, get_or-replicate, take_all}
 use Rattle.std.proofs.lemmas.Nat.{mod_below}
-use Rattle.ag_kept.proofs.Homes.{cut_at_end}
 use Rattle.ag_model.specs.declared.config.Mode.{Mode}
 use Rattle.ag_model.specs.declared.record.Log.{Log}
 use Rattle.ag_model.specs.declared.answer.Answer.{Answer}
@@ -67,9 +66,12 @@ ends_within : (low high : ℕ) (es : List ℕ) → RisesTo low high es → filte
 ends_within low high [] h = refl
 ends_within low high (e ∷ es) h = rw (le-leb e high (rises_le e high es h.1)) (ap (λ l. e ∷ l) (ends_within e high es h.1))
 
+pub cut_whole : (log : Log) → RisesTo 0 (length log.records) log.ends → cut_at (length log.records) log ≡ log
+cut_whole log h = λ i. record { records = take_all (length log.records) log.records (omega arith) i; ends = ends_within 0 (length log.records) log.ends h i }
+
 -- the log of a home, cut at its end
 pub home_cut : (h : Home) → IsHome h → cut_at (length h.log.records) h.log ≡ h.log
-home_cut h is = cut_at_end h.log is.first.rises
+home_cut h is = cut_whole h.log is.first.rises
 
 -- a start
 

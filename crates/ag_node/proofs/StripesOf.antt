@@ -69,3 +69,11 @@ least_last [] i d h = absurd (omega arith)
 least_last (p ∷ []) zero d h = refl
 least_last (p ∷ q ∷ ps) zero d h = absurd (omega arith)
 least_last (p ∷ ps) (suc i) d h = least_last ps i d (omega arith)
+
+-- the least is below each
+pub least_below : (ps : List ℕ) (i : ℕ) → i < length ps → least ps ≤ get_or ps i 0
+least_below [] i h = absurd (omega arith)
+least_below (p ∷ []) zero h = omega arith
+least_below (p ∷ []) (suc i) h = absurd (omega (arith, h))
+least_below (p ∷ q ∷ ps) zero h = omega arith
+least_below (p ∷ q ∷ ps) (suc i) h = let below : least (q ∷ ps) ≤ get_or (q ∷ ps) i 0 = least_below (q ∷ ps) i (omega (arith, h)) in omega (arith, below)

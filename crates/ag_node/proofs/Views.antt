@@ -5,3 +5,7 @@ use Rattle.ag_node.specs.Seen.{NodeView}
 
 pub replica_is : {v w : NodeView} → v ≡ w → v.replica ≡ w.replica
 replica_is e = ap (λ (x : NodeView). x.replica) e
+
+pub on_ok : {A E : Type 0} {P : Type 0} (r : Result A E) → P → OnOk r P
+on_ok (Ok a) p = p
+on_ok (Err e) p = tt

@@ -7,8 +7,6 @@ use Rattle.std.proofs.Math.Nat.{le-max_left, le-max_right}
 use Rattle.std.proofs.lemmas.Grind.{fold-append}
 use Rattle.std.proofs.lemmas.List.{length-drop, take-append-drop}
 use Rattle.std.proofs.lemmas.List.Folds.{list_any-append}
-use Rattle.ag_lists.proofs.Filters.{filter_none}
-use Rattle.ag_lists.proofs.Each.{all_map, all_append, all_split, all_pieces}
 use Rattle.ag_model.specs.declared.config.TermStart.{TermStart}
 use Rattle.ag_model.specs.declared.record.Record.{Record}
 use Rattle.ag_model.specs.declared.record.Record.TheVariants.{Put, Del, Commit, Abort, Trim, Term}
@@ -24,7 +22,7 @@ use Rattle.ag_logstore.specs.Blocks.{AreBlocks}
 use Rattle.ag_logstore.specs.LogKept.{RisesTo}
 use Rattle.ag_node.specs.Room.{is_trim}
 use Rattle.ag_logstore.proofs.LogEnds.{rises_le}
-use Rattle.ag_node.proofs.RoomLog.{eqb_self, puts_of, new_of}
+use Rattle.ag_node.proofs.RoomLog.{eqb_self, puts_of, new_of, all_map, all_append}
 
 -- the transactions that have their Commit among the first records have it among the second
 abbrev EndsWith : List Record → List Record → Type 0
@@ -97,10 +95,14 @@ commit_ends txn (Abort t listed ∷ rs) e = ap (λ b. (txn == t) || b) (commit_e
 commit_ends txn (Trim page horizon ∷ rs) e = commit_ends txn rs e
 commit_ends txn (Term term ∷ rs) e = commit_ends txn rs e
 
+none_stay : (f : ℕ → Bool) (xs : List ℕ) → AllByRecursion (λ x. f x ≡ false) xs → filter f xs ≡ []
+none_stay f [] h = refl
+none_stay f (x ∷ xs) h = ap (λ b. if b then x ∷ filter f xs else filter f xs) h.0 ∙ none_stay f xs h.1
+
 -- no transaction is open
 pub none_open : (rs : List Record) → IsWhole rs → open_in rs ≡ []
 none_open rs h =
-    ap rising (filter_none (λ txn. not (list_any (is_end_of txn) rs)) (flat_map txn_of rs)
+    ap rising (none_stay (λ txn. not (list_any (is_end_of txn) rs)) (flat_map txn_of rs)
     (all_map (λ txn. list_any (is_commit_of txn) rs ≡ true) (λ txn. not (list_any (is_end_of txn) rs) ≡ false) (λ txn e. ap not (commit_ends txn rs e)) (flat_map txn_of rs)
     (txns_end rs rs (λ txn e. e) h)))
 
@@ -154,6 +156,14 @@ fold_max_least d (x ∷ xs) = omega (arith, fold_max_least (max d x) xs, le-max_
 within_max : (d : ℕ) (xs : List ℕ) → AllByRecursion (λ x. x ≤ fold max d xs) xs
 within_max d [] = tt
 within_max d (x ∷ xs) = (omega (arith, fold_max_least (max d x) xs, le-max_right d x), within_max (max d x) xs)
+
+all_split : {X : Type 0} (P : X → Type 0) (xs ys : List X) → AllByRecursion P (xs ++ ys) → AllByRecursion P xs × AllByRecursion P ys
+all_split P [] ys h = (tt, h)
+all_split P (x ∷ xs) ys h = ((h.0, (all_split P xs ys h.1).0), (all_split P xs ys h.1).1)
+
+all_pieces : {X A : Type 0} (P : A → Type 0) (f : X → List A) (xs : List X) → AllByRecursion P (flat_map f xs) → AllByRecursion (λ x. AllByRecursion P (f x)) xs
+all_pieces P f [] h = tt
+all_pieces P f (x ∷ xs) h = ((all_split P (f x) (flat_map f xs) h).0, all_pieces P f xs (all_split P (f x) (flat_map f xs) h).1)
 
 -- the transactions of a log go up to its last one
 pub whole_known : (rs : List Record) → AllByRecursion (λ (r : Record). AllByRecursion (λ t. t ≤ last_txn rs) (txn_of r)) rs

@@ -9,10 +9,18 @@ ghost use Rattle.ag_built.specs.Built.{IsPair};
 ghost use Rattle.ag_rules.specs.SetEvent.{pages_of_pairs, records_of_set};
 
 use ag_model::event::Pair;
-use ag_model::page::page_of;
 use ag_model::record::{PageList, Record, RecordList};
 use ag_model::value::{NoMemory, Value};
 use std::alloc::{AllocError, Global};
+
+/// The page of a key.
+fn page_of(pages: u16, key: u32) -> u16
+    requires some { 0 < pages }
+    requires few { pages ≤ 2048 }
+    ensures { result ≡ page_of pages key }
+{
+    16 + (key % u32::from(pages)) as u16
+}
 
 /// The place of the first number that is not below this one, or the end.
 fn place_of(numbers: &[u16], number: u16) -> usize

@@ -12,7 +12,7 @@ use Rattle.ag_outside.specs.declared.disk.DiskError.TheVariants.{Failed}
 use Rattle.ag_outside.specs.declared.mem_disk.Change.{Change}
 use Rattle.ag_outside.specs.declared.mem_disk.Change.TheVariants.{Wrote, Synced}
 use Rattle.ag_outside.specs.declared.mem_disk.MemDisk.{MemDisk}
-use Rattle.ag_outside.specs.Disks.{Content, Image, or_zeros, put, WroteSo, IsImage}
+use Rattle.ag_outside.specs.Disks.{Elapses, Content, Image, or_zeros, put, WroteSo, IsImage}
 use Rattle.ag_outside.specs.Calls.{Call, Write_call, Read_call, Sync_call}
 
 -- the sectors that were written

@@ -5,8 +5,6 @@ use Rattle.std.specs.List.{AllByRecursion}
 use Rattle.std.proofs.lemmas.Bool.{cases_eq, or_left, or_right, eq-eqb, ne_eqb}
 use Rattle.std.proofs.lemmas.List.{get_or-replicate, get_or-set_same, get_or-set_other, length-set, length-replicate}
 use Rattle.std.proofs.lemmas.List.Elements.{recursion_from_All}
-use Rattle.ag_lists.proofs.Places.{same_at}
-use Rattle.ag_lists.proofs.Tests.{or_same}
 use Rattle.ag_model.specs.declared.record.Log.{Log}
 use Rattle.ag_model.specs.Blocks.{cut_at, next_end}
 use Rattle.ag_model.specs.Page.{value}
@@ -45,6 +43,12 @@ next-is-end lsn es is = go es (λ e h. h)
     go [] all = is
     go (f ∷ fs) all = pick (nat_lt lsn f) f (next_end lsn fs) (all f (or_left (eqb f f) (contains f fs) (eq-eqb f f refl))) (go fs (λ e h. all e (or_right (eqb e f) (contains e fs) h)))
 
+-- what stands at an index doesn't depend on what stands for none
+get-any : (xs : List ℕ) (i d e : ℕ) → i < length xs → get_or xs i d ≡ get_or xs i e
+get-any [] i d e lt = absurd (omega (arith, lt))
+get-any (x ∷ xs) zero d e lt = refl
+get-any (x ∷ xs) (suc i) d e lt = get-any xs i d e (omega (arith, lt))
+
 all-same : (P : ℕ → Type 0) (n a : ℕ) → P a → AllByRecursion P (replicate n a)
 all-same P zero a h = tt
 all-same P (suc n) a h = (h, all-same P n a h)
@@ -52,6 +56,10 @@ all-same P (suc n) a h = (h, all-same P n a h)
 -- stripes that all stand at one end
 pub ends-all : (kept : Kept) (applied : List ℕ) (end : ℕ) → applied ≡ replicate 16 end → IsBlockEnd kept.log end → kept.redo ≤ end → AreAtEnds kept applied
 ends-all kept applied end e is low = subst (AreAtEnds kept) (sym e) (record { sixteen = length-replicate 16 end; ends = all-same (λ n. IsBlockEnd kept.log n × (kept.redo ≤ n)) 16 end (is, low) })
+
+or-none : (b : Bool) → b ≡ (b || false)
+or-none true = refl
+or-none false = refl
 
 -- what is seen of a store once its pages were redone
 pub seen-redone : {D : Type 0} (reads : D → Image) (disk new : ScriptedView D) (pages : ℕ) (m : MemoryView) (v : PagesView) (sound : Bool) (before now : ℕ) (applied : List ℕ) (dirty : List Bool)
@@ -135,7 +143,7 @@ module _ {D : Type 0} (size : D → ℕ) (keeps : D → Bool) (reads : D → Ima
         record {
           sixteen = long;
           ends = recursion_from_All (λ n. IsBlockEnd kept.log n × (kept.redo ≤ n)) v.applied (λ i d below.
-              subst (λ n. IsBlockEnd kept.log n × (kept.redo ≤ n)) (same_at v.applied i 0 d below) (stands i (omega (arith, long, below))));
+              subst (λ n. IsBlockEnd kept.log n × (kept.redo ≤ n)) (get-any v.applied i 0 d below) (stands i (omega (arith, long, below))));
         }
 
     values_then : AreValues pages image kept v
@@ -165,7 +173,7 @@ module _ {D : Type 0} (size : D → ℕ) (keeps : D → Bool) (reads : D → Ima
           ∙ ap (λ (s : ℕ). is_dirty m.pages page || is_touched_between pages kept.log.records page (applied_of m.pages s) (applied_of v s)) (sym same)
       | inr ne ↦
           one.others_dirty page (ne_eqb (stripe_of page) stripe ne)
-          ∙ or_same (is_dirty m.pages page) false refl
+          ∙ or-none (is_dirty m.pages page)
           ∙ ap (λ (b : Bool). is_dirty m.pages page || b) (sym (nothing (applied_of m.pages (stripe_of page)) page))
           ∙ ap (λ (n : ℕ). is_dirty m.pages page || is_touched_between pages kept.log.records page (applied_of m.pages (stripe_of page)) n) (sym (elsewhere (stripe_of page) ne))
     ]
@@ -187,7 +195,7 @@ module _ {D : Type 0} (size : D → ℕ) (keeps : D → Bool) (reads : D → Ima
               ∙ ap (λ (b : Bool). is_dirty m.pages page || (b && is_touched_between pages kept.log.records page (applied_of m.pages stripe) end)) (sym (eq-eqb (stripe_of page) stripe same))
           | inr ne ↦
               one.others_dirty page (ne_eqb (stripe_of page) stripe ne)
-              ∙ or_same (is_dirty m.pages page) false refl
+              ∙ or-none (is_dirty m.pages page)
               ∙ ap (λ (b : Bool). is_dirty m.pages page || (b && is_touched_between pages kept.log.records page (applied_of m.pages stripe) end)) (sym (ne_eqb (stripe_of page) stripe ne))
         ])
 

@@ -2,7 +2,6 @@
 use Rattle.std.proofs.Common.{◌≡◌, ◌+◌, ◌≤◌, ◌||◌, ℕ, List, get_or, length, leb, ltb, map, Bool, true, false, Some, refl, sym, ap, ◌∙◌, subst, arith}
 use Rattle.std.specs.Prelude.{Option}
 use Rattle.std.proofs.lemmas.Bool.{and_from, le-leb, lt-ltb}
-use Rattle.ag_lists.proofs.Tests.{or_same}
 use Rattle.ag_model.specs.declared.record.Record.{Record}
 use Rattle.ag_model.specs.declared.value.PageValue.{PageValue}
 use Rattle.ag_model.specs.declared.value.Row.{Row}
@@ -29,6 +28,10 @@ use Rattle.ag_store.proofs.Asking.{says_value}
 use Rattle.ag_store.proofs.Flags.{map-same}
 use Rattle.ag_store.proofs.Stores.{image_at, loaded_of, stands_at, proper_of, redone_store, stripe-low}
 use Rattle.ag_store.proofs.Touching.{none-here}
+
+or-none : (a b : Bool) → b ≡ false → a ≡ (a || b)
+or-none true b e = refl
+or-none false b e = sym e
 
 module _ {D : Type 0} (size : D → ℕ) (keeps : D → Bool) (reads : D → Image) (may_hold : D → ℕ → Content → Type 0) (disk : ScriptedView D) (pages : ℕ) (memory : Option MemoryView) (sound : Bool) (m : MemoryView)
     (st : IsStore size keeps reads may_hold disk pages memory sound) (is_sound : sound ≡ true) (has : memory ≡ Some m) where
@@ -83,7 +86,7 @@ module _ {D : Type 0} (size : D → ℕ) (keeps : D → Bool) (reads : D → Ima
         let stripe : ℕ = stripe_of page in
         let none : is_touched_between pages kept.log.records page (applied_of m.pages stripe) (applied_of v stripe) ≡ false =
         ap (λ (n : ℕ). is_touched_between pages kept.log.records page (applied_of m.pages stripe) n) (same_applied stripe) ∙ none-here (touches pages page) (applied_of m.pages stripe) kept.log.records in
-        read.dirty page ∙ or_same (is_dirty m.pages page) (is_touched_between pages kept.log.records page (applied_of m.pages stripe) (applied_of v stripe)) none
+        read.dirty page ∙ or-none (is_dirty m.pages page) (is_touched_between pages kept.log.records page (applied_of m.pages stripe) (applied_of v stripe)) none
 
     module _ (new : ScriptedView D) (shows : ShowsSame keeps reads may_hold disk new) where
       pub read_store : log_end ≤ size new.disk → IsStore size keeps reads may_hold new pages (Some (record { log = m.log; pages = v; redo = m.redo })) sound

@@ -2,8 +2,7 @@
 use Rattle.std.proofs.Common.{◌≡◌, ℕ, zero, suc, ◌-◌, Bool, true, List, [], ◌∷◌, ◌++◌, drop, leb, refl, sym, ap, ◌∙◌, subst}
 use Rattle.std.specs.Prelude.{replicate, ◌&&◌}
 use Rattle.std.specs.List.{fold}
-use Rattle.std.proofs.lemmas.Bool.{le-leb, and_from}
-use Rattle.ag_page.proofs.Zeros.{are_zeros}
+use Rattle.std.proofs.lemmas.Bool.{le-leb}
 use Rattle.ag_model.specs.declared.record.Log.{Log}
 use Rattle.ag_model.specs.declared.record.Record.{Record}
 use Rattle.ag_model.specs.declared.record.Record.TheVariants.{Put, Del, Commit, Abort, Trim, Term}
@@ -17,8 +16,15 @@ use Rattle.ag_logstore.specs.Stored.{Stored, Place, AreStored, after_block, firs
 use Rattle.ag_logstore.specs.LogOf.{IsLogOf}
 use Rattle.ag_stripe.specs.Spelled.{IsSpelled, AreSpelled}
 
+zeros-are : (n : ℕ) → are_zero (replicate n 0) ≡ true
+zeros-are zero = refl
+zeros-are (suc n) = zeros-are n
+
+both : (a b : Bool) → a ≡ true → b ≡ true → (a && b) ≡ true
+both a b p q = rw (p, q) refl
+
 value-spelled : (v : Value) → IsValue v → has_spelling (PutChange v) ≡ true
-value-spelled v is = and_from (leb v.len 64) (are_zero (drop v.len v.bytes)) (le-leb v.len 64 is.most) (ap are_zero is.zeros ∙ are_zeros (64 - v.len))
+value-spelled v is = both (leb v.len 64) (are_zero (drop v.len v.bytes)) (le-leb v.len 64 is.most) (ap are_zero is.zeros ∙ zeros-are (64 - v.len))
 
 record-spelled : (r : Record) → HasSpelling r → IsSpelled r
 record-spelled (Put txn key value) h = value-spelled value h.2

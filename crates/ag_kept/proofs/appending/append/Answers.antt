@@ -1,7 +1,6 @@
 use Rattle.std.proofs.Common.{Err, ap, ◌∙◌}
-use Rattle.ag_lists.proofs.Results.{always_on_ok}
 use Rattle.ag_logstore.specs.Stores.{StoreView, stored_by}
-use Rattle.ag_kept.proofs.Coming.{append_failed, append_went, append_leaves, follows_so, sectors_is, if_ok, on_ok, append_later}
+use Rattle.ag_kept.proofs.Coming.{append_failed, append_went, append_leaves, follows_so, sectors_is, if_ok, on_ok, always_ok, append_later}
 use Rattle.ag_kept.proofs.appending.append.Goals as goal
 
 pub returns-in-Ok-clause-reach : goal.returns-in-Ok-clause-reach
@@ -98,4 +97,4 @@ returns-in-Err-DiskFault-clause-later g c =
     let ready = c.requires.ready in
     let f = follows_so s block c.requires.payload ready.least ready.most c.head_fits.ensures c.requires.first c.requires.room in
     let broken = c.append_harden.ensures.broken (c.in-Err-DiskFault.is ∙ ap (λ e. Err e) c.in-Err-DiskFault.field-0-is) in
-    always_on_ok c.reached.result (append_later d.keeps d.reads d.may_hold d.faults c.args.disk.now c.arm.new.self c.append_harden.new.disk s (stored_by s.incarnation block) c.args.suffix.now c.order_of.result c.arm.ensures c.order_of.ensures c.requires.unsynced c.requires.keeps (ready.current c.requires.keeps) f broken)
+    always_ok c.reached.result (append_later d.keeps d.reads d.may_hold d.faults c.args.disk.now c.arm.new.self c.append_harden.new.disk s (stored_by s.incarnation block) c.args.suffix.now c.order_of.result c.arm.ensures c.order_of.ensures c.requires.unsynced c.requires.keeps (ready.current c.requires.keeps) f broken)

@@ -1,6 +1,5 @@
 use Rattle.std.proofs.Common.{◌≡◌, ℕ, [], ◌∷◌, Err, sym, ap, ◌∙◌, subst}
 use Rattle.std.specs.Prelude.{IfOk, IsErrOf}
-use Rattle.ag_lists.proofs.Results.{always_on_ok}
 use Rattle.ag_outside.specs.Calls.{Piece}
 use Rattle.ag_master.specs.declared.master.Master.{Master}
 use Rattle.ag_master.specs.Spelling.{spelling}
@@ -9,7 +8,7 @@ use Rattle.ag_kept.specs.Ending.{reach_of}
 use Rattle.ag_kept.specs.Starting.{raised_master}
 use Rattle.ag_outside.proofs.Quiet.{leads_later}
 use Rattle.ag_kept.proofs.Calls.{write_ends, went_through}
-use Rattle.ag_kept.proofs.Coming.{if_ok, on_ok}
+use Rattle.ag_kept.proofs.Coming.{if_ok, on_ok, always_ok}
 use Rattle.ag_kept.proofs.Beginning.{Wrote, wrote, write_below}
 use Rattle.ag_kept.proofs.starting.raise.Goals as goal
 
@@ -82,4 +81,4 @@ pub returns-in-Err-DiskFault-clause-later : goal.returns-in-Err-DiskFault-clause
 returns-in-Err-DiskFault-clause-later g c =
     let d = g.D.Disk in
     let broken = c.save.ensures.broken (c.in-Err-DiskFault.is ∙ ap (λ e. Err e) c.in-Err-DiskFault.field-0-is) in
-    always_on_ok c.reached.result (leads_later d.keeps d.reads d.may_hold d.faults c.args.disk.now c.save.new.disk broken.calls broken.leads)
+    always_ok c.reached.result (leads_later d.keeps d.reads d.may_hold d.faults c.args.disk.now c.save.new.disk broken.calls broken.leads)

@@ -1,7 +1,5 @@
 use Rattle.std.proofs.Common.{◌≡◌, ◌≤◌, ◌<◌, ℕ, get_or, true, sym, ap, subst, ◌∙◌, arith}
 use Rattle.std.proofs.lemmas.Nat.{mod_below}
-use Rattle.ag_store.proofs.Flushes.{least_low}
-use Rattle.ag_lists.proofs.Results.{always_on_ok}
 use Rattle.ag_model.specs.Page.{value}
 use Rattle.ag_model.specs.Rows.{page_of, stripe_of}
 use Rattle.ag_rules.specs.Replica.{Replica, least}
@@ -10,7 +8,8 @@ use Rattle.ag_store.specs.declared.fault.ReadFault.{ReadFault}
 use Rattle.ag_node.specs.Sites.{here_at}
 use Rattle.ag_node.specs.Nodes.{leading_of}
 use Rattle.ag_node.proofs.NodeSteps.{front_shown, horizon_is, pages_are, read_left, read_nothing, read_row, read_too_old}
-use Rattle.ag_node.proofs.Views.{replica_is}
+use Rattle.ag_node.proofs.StripesOf.{least_below}
+use Rattle.ag_node.proofs.Views.{on_ok, replica_is}
 use Rattle.ag_node.proofs.node.Node.row_at_front.Goals.{in-Ok, in-Err-TooOld, in-Err-Gave}
 use Rattle.ag_node.proofs.node.Node.row_at_front.Goals as goal
 
@@ -20,7 +19,7 @@ row_at-requires-clause-redone g c =
     let up : n.home.activity.up ≡ true = ap (λ (x : Replica). x.up) (replica_is c.self.view_is) ∙ c.requires.up in
     let s : ℕ = stripe_of (page_of n.home.pages c.args.key) in
     let few : s < 16 = mod_below (page_of n.home.pages c.args.key) 16 (omega arith) in
-    let below : least n.published ≤ get_or n.published s 0 = least_low n.published s (omega (arith, few, c.self.invariant.sixteen)) in
+    let below : least n.published ≤ get_or n.published s 0 = least_below n.published s (omega (arith, few, c.self.invariant.sixteen)) in
     omega (arith, c.front-front.ensures, below, c.self.invariant.redone up s)
 
 pub returns-clause-answer : goal.returns-clause-answer
@@ -47,9 +46,9 @@ returns-clause-answer g c =
 pub returns-clause-left : goal.returns-clause-left
 returns-clause-left g c =
     let n = c.self.inside in
-    always_on_ok c.match-row_at.result (read_left n.home _ (leading_of n.buffer n.last_txn n.synced n.peers.items) c.args.self.now.replica (here_at c.args.site.now) c.args.key (replica_is c.self.view_is) c.self.invariant.home)
+    on_ok c.match-row_at.result (read_left n.home _ (leading_of n.buffer n.last_txn n.synced n.peers.items) c.args.self.now.replica (here_at c.args.site.now) c.args.key (replica_is c.self.view_is) c.self.invariant.home)
 
 pub returns-clause-writes : goal.returns-clause-writes
 returns-clause-writes g c =
     let n = c.self.inside in
-    always_on_ok c.match-row_at.result (read_nothing n.home _ (leading_of n.buffer n.last_txn n.synced n.peers.items) c.args.self.now.replica (here_at c.args.site.now) c.args.key (replica_is c.self.view_is) c.self.invariant.home)
+    on_ok c.match-row_at.result (read_nothing n.home _ (leading_of n.buffer n.last_txn n.synced n.peers.items) c.args.self.now.replica (here_at c.args.site.now) c.args.key (replica_is c.self.view_is) c.self.invariant.home)
