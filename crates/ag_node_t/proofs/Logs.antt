@@ -7,15 +7,13 @@ use Rattle.ag_model.specs.declared.config.Mode.TheVariants.{Sync}
 use Rattle.ag_model.specs.declared.event.Pair.{Pair}
 use Rattle.ag_model.specs.declared.record.Log.{Log}
 use Rattle.ag_model.specs.declared.record.Record.TheVariants.{Put, Commit, Term}
-use Rattle.ag_model.specs.Page.{pick, value}
+use Rattle.ag_model.specs.Page.{value}
 use Rattle.ag_model.specs.Proper.{IsProper}
-use Rattle.ag_model.specs.Rows.{committed, rows}
 use Rattle.ag_model.specs.Sizes.{versions_size}
 use Rattle.ag_rules.specs.Access.{access}
 use Rattle.ag_rules.specs.Group.{opening_replica}
 use Rattle.ag_rules.specs.HardenEvent.{harden_part}
 use Rattle.ag_rules.specs.Plan.{Here}
-use Rattle.ag_rules.specs.Replica.{Replica}
 use Rattle.ag_rules.specs.SetEvent.{set_part}
 use Rattle.ag_node.specs.Sites.{here_at}
 

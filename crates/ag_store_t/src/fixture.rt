@@ -1,7 +1,7 @@
 //! Stores as a test begins with them, on disks in memory.
-ghost use Rattle.std.specs.Prelude.{◌≡◌, ◌∷◌, [], true, replicate, IfOk};
-ghost use Rattle.ag_model.specs.declared.record.Record.TheVariants.{Put, Commit};
+ghost use Rattle.std.specs.Prelude.{◌≡◌, true, IfOk};
 ghost use Rattle.ag_store.specs.Views.{opening_store};
+ghost use Rattle.ag_store_t.specs.Parts.{new_records};
 
 use crate::held::Held;
 use ag_kept::{KeptFault, Reach};
@@ -26,8 +26,8 @@ fn opened(alloc: Global, failing: Vec<u64>) -> Result<Store<MemDisk>, KeptFault>
 }
 
 /// The block after the opening one: transaction 1 puts the value of one byte, aa, at key 5, and commits. Of 16 pages, key 5 is on page 21.
-fn block(alloc: Global) -> Result<Block, NoMemory>
-    ensures { IfOk result (λ b. b ≡ record { first = 2; term = 1; records = Put 1 5 (record { len = 1; bytes = 170 ∷ replicate 63 0 }) ∷ Commit 1 (21 ∷ []) ∷ [] }) }
+pub fn block(alloc: Global) -> Result<Block, NoMemory>
+    ensures { IfOk result (λ b. b ≡ record { first = 2; term = 1; records = new_records }) }
 {
     let mut bytes = [0; 64];
     bytes[0] = 0xaa;

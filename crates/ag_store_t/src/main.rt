@@ -3,6 +3,7 @@
 
 mod fixture;
 mod held;
+mod parts;
 mod playing;
 mod step;
 mod text;

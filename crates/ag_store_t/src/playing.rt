@@ -1,8 +1,8 @@
 //! Plays steps on a store, and says what each gave as text.
-use crate::fixture;
 use crate::held::Held;
 use crate::step::Step;
 use crate::text::{page_text, row_text};
+use crate::{fixture, parts};
 use ag_model::event::Suffix;
 use ag_outside::disk::{Disk, DiskError};
 use ag_outside::mem_disk::MemDisk;
@@ -54,6 +54,17 @@ fn on_disk(alloc: Global, mut disk: MemDisk) -> Result<String, AllocError> {
     format!(in alloc; "{sectors} sectors, mark {mark:?}, redo start {redo:?}")
 }
 
+/// Flushes pages and a disk by themselves, and says where redo starts then, and what is on the disk.
+fn flush_parts(alloc: Global) -> Result<String, AllocError> {
+    match parts::flushed(alloc) {
+        Ok((redo, disk)) => {
+            let text = on_disk(alloc, disk)?;
+            format!(in alloc; "{redo}, {text}")
+        }
+        Err(e) => format!(in alloc; "{e:?}"),
+    }
+}
+
 /// Plays a step on a store.
 fn on_store(alloc: Global, held: &mut Held, step: Step) -> Result<String, AllocError> {
     match step {
@@ -83,6 +94,7 @@ pub fn play(alloc: Global, held: &mut Option<Held>, step: Step) -> Result<String
     match step {
         Step::Open { call } => open(alloc, held, call),
         Step::Harden { call, suffix } => harden(alloc, held, call, suffix),
+        Step::Parts => flush_parts(alloc),
         Step::Disk => match held.take() {
             Some(store) => on_disk(alloc, store.into_disk()),
             None => format!(in alloc; "none"),

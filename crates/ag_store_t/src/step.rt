@@ -16,6 +16,7 @@ pub enum Step {
     Sound,
     Start { suffix: Suffix },
     Marks,
+    Parts,
     Disk,
 }
 
@@ -61,6 +62,7 @@ fn bare(name: &str) -> Option<Step> {
         "fall" => Some(Step::Fall),
         "sound" => Some(Step::Sound),
         "marks" => Some(Step::Marks),
+        "parts" => Some(Step::Parts),
         "disk" => Some(Step::Disk),
         _ => None,
     }
