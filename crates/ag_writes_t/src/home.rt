@@ -121,7 +121,8 @@ impl RowHome {
     fn pass(&mut self, batch: &[Write], order: Order) -> Result<Reach, AllocError>
         requires goes_on { self.old.ended ≡ Ended.No }
         requires room { HasRoom self.old.steps self.old.writes (batch_of batch.now) }
-        ensures reached { OnOk result (reached_by self.new.ended self.new.order self.new.rows self.new.steps self.new.writes ≡ Through (passed order (progress_by self.old.order self.old.rows self.old.steps self.old.writes) (batch_of batch.now))) }
+        ensures reached { OnOk result (reached_by self.new.ended self.new.order self.new.rows self.new.steps self.new.writes
+            ≡ Through (passed order (progress_by self.old.order self.old.rows self.old.steps self.old.writes) (batch_of batch.now))) }
         ensures reach { IfOk result (λ r. r ≡ Reach.End) }
     {
         let count = batch.len() as u32;
@@ -137,7 +138,8 @@ impl RowHome {
         requires goes_on { self.old.ended ≡ Ended.No }
         requires room { HasRoom self.old.steps self.old.writes (batch_of batch.now) }
         requires within { write < length batch.now }
-        ensures reached { OnOk result (reached_by self.new.ended self.new.order self.new.rows self.new.steps self.new.writes ≡ stopped_in write mask (progress_by self.old.order self.old.rows self.old.steps self.old.writes) (batch_of batch.now)) }
+        ensures reached { OnOk result (reached_by self.new.ended self.new.order self.new.rows self.new.steps self.new.writes
+            ≡ stopped_in write mask (progress_by self.old.order self.old.rows self.old.steps self.old.writes) (batch_of batch.now)) }
         ensures reach { IfOk result (λ r. r ≡ reach_of 16 (reached_by self.new.ended self.new.order self.new.rows self.new.steps self.new.writes)) }
     {
         let count = write as usize + 1;
