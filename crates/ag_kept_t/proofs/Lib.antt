@@ -1,2 +1,2 @@
 mod Ends
-mod Replicas
+mod Written
