@@ -56,10 +56,7 @@ fn print_step(rt: &HostRuntime, case: &Case, line: &str) -> io::Result<()> {
     let text = case.texts.text.as_slice();
     match name {
         "play" => print_played(rt, text, number(first), number(second))?,
-        "agree" => {
-            let (status, agrees) = is_played_to(alloc, text, case.texts.wanted.as_slice())?;
-            println!(rt; "{status}, agrees: {agrees}")?;
-        }
+        "agree" => print_agreement(rt, text, case.texts.wanted.as_slice())?,
         "run" => println!(rt; "{line}: {}", ran(alloc, first, second)?)?,
         "statuses" => statuses::print(rt)?,
         "crashes" => println!(rt; "{line}: {}", stops::crashes(alloc, text)?)?,
@@ -75,19 +72,31 @@ fn print_step(rt: &HostRuntime, case: &Case, line: &str) -> io::Result<()> {
             "{line}: {}",
             groups::opens(alloc, number(first), number(second))?
         )?,
-        "steps" => {
-            let calls = (number(first), number(second));
-            let (ended, _) = groups::followed(alloc, 16, calls, text)?;
-            println!(rt; "{line}: {ended:?}")?;
-        }
-        "answers" => {
-            let (ended, told) = groups::followed(alloc, number(first), (0, 0), text)?;
-            let ended = format!(in alloc; "{ended:?}")?;
-            print_told(rt, &ended, told.as_slice())?;
-        }
+        "steps" => print_steps(rt, line, text, (number(first), number(second)))?,
+        "answers" => print_answers(rt, text, number(first))?,
         _ => println!(rt; "{line}: no step")?,
     }
     Ok(())
+}
+
+/// Plays a text, and prints how it ends and whether its transcript is the one that is wanted.
+fn print_agreement(rt: &HostRuntime, text: &[u8], wanted: &[u8]) -> io::Result<()> {
+    let (status, agrees) = is_played_to(rt.alloc(), text, wanted)?;
+    println!(rt; "{status}, agrees: {agrees}")
+}
+
+/// Performs the steps of a text on a new group whose disks fail at these calls, and prints how they end.
+fn print_steps(rt: &HostRuntime, line: &str, text: &[u8], calls: (u64, u64)) -> io::Result<()> {
+    let (ended, _) = groups::followed(rt.alloc(), 16, calls, text)?;
+    println!(rt; "{line}: {ended:?}")
+}
+
+/// Performs the steps of a text on a new group of this number of pages, and prints how they end and their answers.
+fn print_answers(rt: &HostRuntime, text: &[u8], pages: u64) -> io::Result<()> {
+    let alloc = rt.alloc();
+    let (ended, told) = groups::followed(alloc, pages, (0, 0), text)?;
+    let ended = format!(in alloc; "{ended:?}")?;
+    print_told(rt, &ended, told.as_slice())
 }
 
 /// Plays a text whose source and sink fail at these calls, and prints how it ends and what the sink took.
