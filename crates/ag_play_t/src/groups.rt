@@ -1,5 +1,5 @@
 //! Groups of a primary and a secondary, whose disks may fail.
-ghost use Rattle.std.specs.Prelude.{◌≡◌, ◌<◌, ◌^◌, ◌+◌, IfOk, length, true, ℕ};
+ghost use Rattle.std.specs.Prelude.{◌≡◌, ◌<◌, ◌≤◌, ◌^◌, ◌+◌, IfOk, length, true, ℕ};
 ghost use Rattle.std.specs.List.{AllByRecursion};
 ghost use Rattle.ag_outside.specs.MemDisks.{mem_reads};
 ghost use Rattle.ag_rules.specs.Script.{IsConfig};
