@@ -1,0 +1,4 @@
+pub mod ReadOnly
+pub mod Rows
+pub mod Places
+pub mod Saving
