@@ -1,0 +1,4 @@
+mod Runs
+pub mod Bytes
+pub mod Found
+pub mod Changed

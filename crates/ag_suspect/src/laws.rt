@@ -1,12 +1,14 @@
 //! Laws of the rows of an image.
 ghost use Rattle.std.specs.Prelude.{◌≡◌, ◌^◌, ◌+◌, ◌<◌, ◌≤◌, ◌⊎◌, ◌∷◌, [], ℕ, List, length, true, false, replicate};
 ghost use Rattle.ag_model.specs.declared.answer.SuspectRow.{SuspectRow};
-ghost use Rattle.ag_outside.specs.Disks.{Content, Image, or_zeros, put, Only};
+ghost use Rattle.ag_outside.specs.Disks.{Image, or_zeros, put, Only};
 ghost use Rattle.ag_outside.specs.MemDisks.{image_of_zeros};
 ghost use Rattle.ag_rules.specs.Plan.{has_row, can_note, noted};
 ghost use Rattle.ag_suspect.specs.Rows.{row_spelling, rows_sector, suspects_on, HasRows};
 ghost use Rattle.ag_suspect.specs.Places.{repaired, noted_sector, repaired_sector};
 ghost use Rattle.ag_suspect.specs.Saving.{IsOldOrNew};
+
+use ag_outside::disk::Disk;
 
 /// An image that has some rows is read so: it has no others.
 pub fn rows_are_read()
@@ -35,11 +37,13 @@ pub fn blank_disks()
 {}
 
 /// Where nothing was unsynced, a crash while a page is noted or marked leaves the old rows or the new ones.
-pub fn rows_old_or_new()
-    ensures noted { (image left : Image) (may_hold : ℕ → Content → Type 0) (rows : List SuspectRow) (page kind : ℕ) → HasRows image rows → 1 ≤ page → page < 2 ^ 16 → kind < 2 ^ 8 → can_note page rows ≡ true
-        → Only image may_hold → IsOldOrNew may_hold (noted_sector page kind rows) left → HasRows left rows ⊎ HasRows left (noted page kind rows) }
-    ensures repaired { (image left : Image) (may_hold : ℕ → Content → Type 0) (rows : List SuspectRow) (page : ℕ) → HasRows image rows → has_row page rows ≡ true
-        → Only image may_hold → IsOldOrNew may_hold (repaired_sector page rows) left → HasRows left rows ⊎ HasRows left (repaired page rows) }
+pub fn rows_old_or_new<D: Disk>()
+    ensures noted { (disk : D) (left : Image) (rows : List SuspectRow) (page kind : ℕ) → Only (D.reads disk) (D.may_hold disk) → HasRows (D.reads disk) rows
+        → 1 ≤ page → page < 2 ^ 16 → kind < 2 ^ 8 → can_note page rows ≡ true → IsOldOrNew (D.may_hold disk) (noted_sector page kind rows) left
+        → HasRows left rows ⊎ HasRows left (noted page kind rows) }
+    ensures repaired { (disk : D) (left : Image) (rows : List SuspectRow) (page : ℕ) → Only (D.reads disk) (D.may_hold disk) → HasRows (D.reads disk) rows
+        → has_row page rows ≡ true → IsOldOrNew (D.may_hold disk) (repaired_sector page rows) left
+        → HasRows left rows ⊎ HasRows left (repaired page rows) }
 {}
 
 /// A worked example: page 21 was noted once with kind 3, and isn't repaired.
