@@ -3,7 +3,7 @@ use Rattle.std.proofs.Common.{◌≡◌, ℕ, zero, suc, ◌+◌, ◌-◌, ◌*�
 use Rattle.std.proofs.lemmas.List.{get_or-take, get_or-drop, length-take}
 use Rattle.std.proofs.lemmas.List.Sums.{take_while-cons}
 use Rattle.std.specs.Prelude.{◌==◌}
-use Rattle.std.specs.List.{AllByRecursion, range_with_len, take_while}
+use Rattle.std.specs.List.{AllByRecursion, IsDistinct, range_with_len, take_while}
 use Rattle.ag_model.specs.declared.answer.SuspectRow.{SuspectRow}
 use Rattle.ag_lists.proofs.Each.{all_map, all_take, all_drop}
 use Rattle.ag_outside.specs.Disks.{Image, or_zeros}
@@ -14,16 +14,16 @@ use Rattle.ag_suspect.proofs.Bytes.{free_row, in_sector}
 -- the front of a list that is given place by place, with what fails behind it
 take_while-places : {X : Type 0} (p : X → Bool) (d : X) (f : ℕ → X) (xs : List X) (a n : ℕ) → p d ≡ false → length xs ≤ n → AllByRecursion (λ x. p x ≡ true) xs → ((i : ℕ) → i < n → f (a + i) ≡ get_or xs i d)
     → take_while p (map f (range_with_len a n)) ≡ xs
-take_while-places p d f [] a zero no short passes is = refl
-take_while-places p d f [] a (suc n) no short passes is =
+take_while-places p d f [] a zero fails_there short passes is = refl
+take_while-places p d f [] a (suc n) fails_there short passes is =
     let here : f a ≡ d = ap f (omega arith) ∙ is 0 (omega arith) in
-    let fails : p (f a) ≡ false = ap p here ∙ no in
+    let fails : p (f a) ≡ false = ap p here ∙ fails_there in
     take_while-cons p (f a) (map f (range_with_len (a + 1) n)) ∙ ap (λ (b : Bool). cond b (f a ∷ take_while p (map f (range_with_len (a + 1) n))) []) fails
-take_while-places p d f (x ∷ xs) a zero no short passes is = absurd (omega arith)
-take_while-places p d f (x ∷ xs) a (suc n) no short passes is =
+take_while-places p d f (x ∷ xs) a zero fails_there short passes is = absurd (omega arith)
+take_while-places p d f (x ∷ xs) a (suc n) fails_there short passes is =
     let here : f a ≡ x = ap f (omega arith) ∙ is 0 (omega arith) in
     let pass : p (f a) ≡ true = ap p here ∙ passes.0 in
-    let rest : take_while p (map f (range_with_len (a + 1) n)) ≡ xs = take_while-places p d f xs (a + 1) n no (omega arith) passes.1 (λ i lt. ap f (omega arith) ∙ is (suc i) (omega arith)) in
+    let rest : take_while p (map f (range_with_len (a + 1) n)) ≡ xs = take_while-places p d f xs (a + 1) n fails_there (omega arith) passes.1 (λ i lt. ap f (omega arith) ∙ is (suc i) (omega arith)) in
     take_while-cons p (f a) (map f (range_with_len (a + 1) n)) ∙ ap (λ (b : Bool). cond b (f a ∷ take_while p (map f (range_with_len (a + 1) n))) []) pass ∙ ap (λ (y : _). y ∷ take_while p (map f (range_with_len (a + 1) n))) here
     ∙ ap (λ (ys : List _). x ∷ ys) rest
 
@@ -54,7 +54,7 @@ taken row h = grind (arith, h.some)
 
 pub are_read : (image : Image) (rows : List SuspectRow) → HasRows image rows → suspects_on image ≡ rows
 unfolding suspects_on
-are_read image rows h = take_while-places is_taken free_row (slot_on image) rows 0 1000 refl h.few (all_map IsRow (λ row. is_taken row ≡ true) taken rows h.fit) (λ i lt. slot_on-rows image rows h i lt)
+are_read image rows h = take_while-places is_taken free_row (slot_on image) rows 0 1000 refl h.few (all_map IsRow (λ row. is_taken row ≡ true) taken rows h.fit) (λ i lt. ap (slot_on image) (omega arith) ∙ slot_on-rows image rows h i lt)
 
 abbrev pub SameAt : Image → Image → Type 0
 SameAt one two = (at : ℕ) → 1 ≤ at → at < 64 → or_zeros (one at) ≡ or_zeros (two at)
@@ -65,7 +65,7 @@ same_slot one two same i lt = ap (λ (bytes : List ℕ). row_in (take 32 (drop (
 
 pub same_read : (one two : Image) → SameAt one two → suspects_on one ≡ suspects_on two
 unfolding suspects_on
-same_read one two same = ap (take_while is_taken) (map-range (slot_on one) (slot_on two) 0 1000 (λ i lt. same_slot one two same i lt))
+same_read one two same = ap (take_while is_taken) (map-range (slot_on one) (slot_on two) 0 1000 (λ i lt. ap (slot_on one) (omega arith) ∙ same_slot one two same i lt ∙ ap (slot_on two) (omega arith)))
 
 pub same_had : (one two : Image) (rows : List SuspectRow) → SameAt one two → HasRows one rows → HasRows two rows
 same_had one two rows same h = record {
@@ -79,10 +79,11 @@ no_rows : rows_sector [] ≡ replicate 512 0
 unfolding rows_sector
 no_rows = refl
 
-drop-nil : (n : ℕ) → drop n ([] : List SuspectRow) ≡ []
+drop-nil : (n : ℕ) → drop {A = SuspectRow} n [] ≡ []
 drop-nil zero = refl
 drop-nil (suc n) = refl
 
 -- a disk of zeros has no row
 pub blank : HasRows image_of_zeros []
+unfolding IsDistinct
 blank = record { fit = tt; few = omega arith; once = tt; stand = λ j lt. sym (ap (λ (rows : List SuspectRow). rows_sector (take 16 rows)) (drop-nil (16 * j)) ∙ no_rows) }

@@ -20,7 +20,7 @@ pub fn rows_stay()
     ensures noted { (image : Image) (rows : List SuspectRow) (page kind : ℕ) → HasRows image rows → 1 ≤ page → page < 2 ^ 16 → kind < 2 ^ 8 → can_note page rows ≡ true
         → HasRows (put image (noted_sector page kind rows)) (noted page kind rows) }
     ensures repaired { (image : Image) (rows : List SuspectRow) (page : ℕ) → HasRows image rows → has_row page rows ≡ true → HasRows (put image (repaired_sector page rows)) (repaired page rows) }
-    ensures none { (image : Image) (rows : List SuspectRow) (page : ℕ) → has_row page rows ≡ false → repaired page rows ≡ rows }
+    ensures none { (rows : List SuspectRow) (page : ℕ) → has_row page rows ≡ false → repaired page rows ≡ rows }
     ensures noted_at { (rows : List SuspectRow) (page kind : ℕ) → length rows ≤ 1000 → can_note page rows ≡ true → (1 ≤ (noted_sector page kind rows).at) × ((noted_sector page kind rows).at < 64) }
     ensures repaired_at { (rows : List SuspectRow) (page : ℕ) → length rows ≤ 1000 → has_row page rows ≡ true → (1 ≤ (repaired_sector page rows).at) × ((repaired_sector page rows).at < 64) }
 {}
@@ -48,5 +48,5 @@ pub fn rows_old_or_new<D: Disk>()
 
 /// A worked example: page 21 was noted once with kind 3, and isn't repaired.
 pub fn example_row()
-    ensures bytes { row_spelling (record { page = 21; kind = 3; repaired = false; count = 1 }) ≡ 0 ∷ 21 ∷ 3 ∷ 0 ∷ 0 ∷ 0 ∷ 0 ∷ 1 ∷ replicate 24 0 }
+    ensures { row_spelling (record { page = 21; kind = 3; repaired = false; count = 1 }) ≡ 0 ∷ 21 ∷ 3 ∷ 0 ∷ 0 ∷ 0 ∷ 0 ∷ 1 ∷ replicate 24 0 }
 {}

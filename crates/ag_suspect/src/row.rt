@@ -23,8 +23,8 @@ fn spell(row: &SuspectRow) -> [u8; 32]
 
 /// The sector of at most 16 rows.
 pub(crate) fn encode(rows: &[SuspectRow]) -> Sector
-    requires few { length rows.now ≤ 16 }
-    ensures sector { result ≡ rows_sector rows.now }
+    requires { length rows.now ≤ 16 }
+    ensures { result ≡ rows_sector rows.now }
 {
     let mut bytes = [0; 512];
     for (i, row) in rows.iter().enumerate() {
@@ -35,16 +35,16 @@ pub(crate) fn encode(rows: &[SuspectRow]) -> Sector
 
 /// What stands at a place of a sector. Places count from 0.
 pub(crate) fn row_at(sector: &Sector, place: usize) -> SuspectRow
-    requires within { place < 16 }
-    ensures row { result ≡ row_in (take 32 (drop (32 * place) sector.now)) }
+    requires { place < 16 }
+    ensures { result ≡ row_in (take 32 (drop (32 * place) sector.now)) }
 {
     read(&sector[ROW * place..ROW * place + ROW])
 }
 
 /// What stands in 32 bytes.
 fn read(bytes: &[u8]) -> SuspectRow
-    requires whole { length bytes.now ≡ 32 }
-    ensures row { result ≡ row_in bytes.now }
+    requires { length bytes.now ≡ 32 }
+    ensures { result ≡ row_in bytes.now }
 {
     SuspectRow {
         page: BigEndian::read_u16(bytes),

@@ -15,8 +15,8 @@ use ag_outside::disk::{Disk, Sector};
 
 /// The sector that has the row of a place.
 fn sector_of(rows: &[SuspectRow], place: usize) -> Sector
-    requires place { place < 1000 }
-    ensures sector { result ≡ rows_sector (part_of (place / 16) rows.now) }
+    requires { place < 1000 }
+    ensures { result ≡ rows_sector (part_of (place / 16) rows.now) }
 {
     let first = (place / 16 * 16).min(rows.len());
     let (_, rest) = rows.split_at(first);
