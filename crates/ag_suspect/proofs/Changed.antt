@@ -69,8 +69,11 @@ module _ (f : SuspectRow → SuspectRow) (page : ℕ) (stays : (row : SuspectRow
       (λ _ away other. past row rows (elsewhere rows (once_tail row rows once)) m away other)
       refl apart
 
-repaired_stays : (page : ℕ) (row : SuspectRow) → (row.page == page) ≡ false → repaired_row page row ≡ row
+pub repaired_stays : (page : ℕ) (row : SuspectRow) → (row.page == page) ≡ false → repaired_row page row ≡ row
 repaired_stays page row apart = ap (λ (b : Bool). if b then record row { repaired = true } else row) apart
 
 pub none_repaired : (rows : List SuspectRow) (page : ℕ) → has_row page rows ≡ false → repaired page rows ≡ rows
 none_repaired rows page none = same-rows (repaired_row page) page (repaired_stays page) rows none
+
+pub noted_stays : (page kind : ℕ) (row : SuspectRow) → (row.page == page) ≡ false → noted_row page kind row ≡ row
+noted_stays page kind row apart = ap (λ (b : Bool). if b then record row { kind = kind; repaired = false; count = counted row.count } else row) apart

@@ -2,3 +2,4 @@ mod Runs
 pub mod Bytes
 pub mod Found
 pub mod Changed
+pub mod Standing
