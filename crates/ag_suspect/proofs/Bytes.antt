@@ -1,6 +1,6 @@
 -- A row that was written is read again, also in a sector.
 use Rattle.std.proofs.Common.{◌≡◌, ℕ, zero, suc, ◌+◌, ◌-◌, ◌*◌, ◌<◌, ◌≤◌, ◌^◌, Bool, true, false, List, [], ◌∷◌, ◌++◌, length, get_or, take, drop, replicate, refl, sym, ap, subst, ◌∙◌, arith, append_assoc, length-append}
-use Rattle.std.proofs.lemmas.List.{take_at, drop_at, drop-drop, drop-replicate, take-replicate, length-replicate}
+use Rattle.std.proofs.lemmas.List.{take_at, take_all, take_more, drop_at, drop-drop, drop-replicate, take-replicate, length-take, flat_map_more}
 use Rattle.std.specs.Prelude.{if◌then◌else◌, ◌==◌}
 use Rattle.std.specs.Int.{w16, w32, to_be_bytes}
 use Rattle.std.specs.List.{AllByRecursion, flat_map}
@@ -54,3 +54,27 @@ in_rows (row ∷ rows) (suc k) n fit room =
 pub in_sector : (rows : List SuspectRow) (k : ℕ) → AllByRecursion IsRow rows → length rows ≤ 16 → k < 16 → row_in (take 32 (drop (32 * k) (rows_sector rows))) ≡ get_or rows k free_row
 unfolding rows_sector
 in_sector rows k fit few within = in_rows rows k (512 - 32 * length rows) fit (omega arith)
+
+length-rows : (rows : List SuspectRow) → length (flat_map row_spelling rows) ≡ 32 * length rows
+length-rows [] = omega arith
+length-rows (row ∷ rows) = let ih = length-rows rows in omega (arith, length-append (row_spelling row) (flat_map row_spelling rows), length-row_spelling row)
+
+-- one row more, written over zeros
+pub one_more : (rows : List SuspectRow) (i : ℕ) (bytes more : List ℕ) → i < length rows → length rows ≤ 16 → bytes ≡ flat_map row_spelling (take i rows) ++ replicate (512 - 32 * i) 0
+    → more ≡ take (32 * i) bytes ++ (row_spelling (get_or rows i free_row) ++ drop (32 * i + 32) bytes) → more ≡ flat_map row_spelling (take (i + 1) rows) ++ replicate (512 - 32 * (i + 1)) 0
+one_more rows i bytes more lt few is put =
+    let done = flat_map row_spelling (take i rows) in
+    let row = row_spelling (get_or rows i free_row) in
+    let zeros = replicate (512 - 32 * i) 0 in
+    let long : length done ≡ 32 * i = omega (arith, length-rows (take i rows), length-take i rows) in
+    let front : take (32 * i) bytes ≡ done = ap (take (32 * i)) is ∙ take_at done zeros (32 * i) long in
+    let back : drop (32 * i + 32) bytes ≡ replicate (512 - 32 * (i + 1)) 0 =
+    ap (drop (32 * i + 32)) is ∙ sym (drop-drop 32 (32 * i) (done ++ zeros)) ∙ ap (drop 32) (drop_at done zeros (32 * i) long) ∙ drop-replicate 32 (512 - 32 * i) 0 ∙ ap (λ (n : ℕ). replicate n 0) (omega arith) in
+    let rows_more : flat_map row_spelling (take (i + 1) rows) ≡ done ++ row = ap (flat_map row_spelling) (take_more rows i free_row lt) ∙ sym (flat_map_more row_spelling [] (take i rows) (get_or rows i free_row)) in
+    put ∙ ap (λ (zs : List ℕ). zs ++ (row ++ drop (32 * i + 32) bytes)) front ∙ ap (λ (zs : List ℕ). done ++ (row ++ zs)) back ∙ sym (append_assoc done row (replicate (512 - 32 * (i + 1)) 0))
+    ∙ ap (λ (zs : List ℕ). zs ++ replicate (512 - 32 * (i + 1)) 0) (sym rows_more)
+
+-- all rows were written
+pub all_put : (rows : List SuspectRow) (i : ℕ) → i ≡ length rows → flat_map row_spelling (take i rows) ++ replicate (512 - 32 * i) 0 ≡ flat_map row_spelling rows ++ replicate (512 - 32 * length rows) 0
+all_put rows i is =
+    ap (λ (rs : List SuspectRow). flat_map row_spelling rs ++ replicate (512 - 32 * i) 0) (take_all i rows (omega arith)) ∙ ap (λ (n : ℕ). flat_map row_spelling rows ++ replicate (512 - 32 * n) 0) is

@@ -1,6 +1,8 @@
 -- What a change of one page's row leaves of the list, and of its sectors.
 use Rattle.std.proofs.Common.{◌≡◌, ◌≢◌, ◌⊎◌, ℕ, zero, suc, ◌+◌, ◌-◌, ◌*◌, ◌/◌, ◌%◌, ◌<◌, ◌≤◌, ◌^◌, Bool, true, false, cond, not, ◌||◌, List, [], ◌∷◌, ◌++◌, map, length, get_or, take, drop, refl, sym, ap, subst, ◌∙◌, arith, inl, inr}
-use Rattle.std.specs.Prelude.{Some, ◌==◌, nat_eq, nat_lt, if◌then◌else◌}
+use Rattle.std.specs.Prelude.{Some, None, ◌==◌, nat_eq, nat_lt, unwrap_or, position, if◌then◌else◌}
+use Rattle.std.proofs.lemmas.Bool.{cases_lt, lt-ltb, le-ltb}
+use Rattle.std.proofs.lemmas.List.Sums.{prefix_len-le-length}
 use Rattle.std.specs.List.{AllByRecursion, IsDistinct, list_any, position_or_len}
 use Rattle.std.proofs.lemmas.Bool.Decides.{eqb_tells, nat_tests}
 use Rattle.std.proofs.lemmas.List.{ext_get_or, get_or-take, get_or-drop, length-take, length-drop, length-map, length-append, take-append-le, drop-append-le, drop_all}
@@ -77,3 +79,13 @@ none_repaired rows page none = same-rows (repaired_row page) page (repaired_stay
 
 pub noted_stays : (page kind : ℕ) (row : SuspectRow) → (row.page == page) ≡ false → noted_row page kind row ≡ row
 noted_stays page kind row apart = ap (λ (b : Bool). if b then record row { kind = kind; repaired = false; count = counted row.count } else row) apart
+
+-- where the first one stands, or behind the last
+pub first-or-behind : {X : Type 0} (p : X → Bool) (xs : List X) → unwrap_or (position p xs) (length xs) ≡ position_or_len p xs
+first-or-behind p xs =
+    let n = position_or_len p xs in
+    let le : n ≤ length xs = prefix_len-le-length (λ x. not (p x)) xs in
+    elim (cases_lt n (length xs)) [
+      | inl within ↦ ap (λ (b : Bool). unwrap_or (cond b (Some n) None) (length xs)) (lt-ltb n (length xs) within)
+      | inr behind ↦ ap (λ (b : Bool). unwrap_or (cond b (Some n) None) (length xs)) (le-ltb n (length xs) behind) ∙ omega arith
+    ]

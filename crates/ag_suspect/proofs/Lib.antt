@@ -1,4 +1,5 @@
 mod Runs
+mod Kept
 pub mod Bytes
 pub mod Found
 pub mod Changed

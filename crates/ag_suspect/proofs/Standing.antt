@@ -22,9 +22,9 @@ part-same j place xs ys long same apart =
     ext_get_or free_row (part_of j xs) (part_of j ys)
     (omega (arith, length-take 16 (drop (16 * j) xs), length-take 16 (drop (16 * j) ys), length-drop (16 * j) xs, length-drop (16 * j) ys))
     (λ i lt.
-        let small : i < 16 = omega arith in
-        let other : 16 * j + i ≢ place = λ e. apart (omega arith) in
-        get_or-take 16 (drop (16 * j) xs) i free_row small ∙ get_or-drop (16 * j) xs i free_row ∙ same (16 * j + i) other ∙ sym (get_or-take 16 (drop (16 * j) ys) i free_row small ∙ get_or-drop (16 * j) ys i free_row))
+    let small : i < 16 = omega arith in
+    let other : 16 * j + i ≢ place = λ e. apart (omega arith) in
+    get_or-take 16 (drop (16 * j) xs) i free_row small ∙ get_or-drop (16 * j) xs i free_row ∙ same (16 * j + i) other ∙ sym (get_or-take 16 (drop (16 * j) ys) i free_row small ∙ get_or-drop (16 * j) ys i free_row))
 
 part-pushed : (j : ℕ) (rows : List SuspectRow) (row : SuspectRow) → j ≢ length rows / 16 → part_of j (rows ++ row ∷ []) ≡ part_of j rows
 part-pushed j rows row apart = elim (cases_lt (length rows) (16 * j)) [
@@ -117,12 +117,12 @@ room-left rows page none can =
 pub noted-rows : (rows : List SuspectRow) (page kind : ℕ) → AreRows rows → 1 ≤ page → page < 2 ^ 16 → kind < 2 ^ 8 → can_note page rows ≡ true → AreRows (noted page kind rows)
 noted-rows rows page kind are some within small can = by_bool (has_row page rows) (λ b. has_row page rows ≡ b → AreRows (noted page kind rows))
     (λ _ had. subst AreRows (sym (noted-had rows page kind had))
-        (record { fit = fit-map (noted_row page kind) (noted-fits page kind small) rows are.fit; few = omega (arith, are.few, length-map rows (noted_row page kind)) }))
+    (record { fit = fit-map (noted_row page kind) (noted-fits page kind small) rows are.fit; few = omega (arith, are.few, length-map rows (noted_row page kind)) }))
     (λ _ none. subst AreRows (sym (noted-new rows page kind none can))
-        (record {
-          fit = all_push IsRow rows (first_row page kind) are.fit (record { some = some; page = within; kind = small; count = omega arith });
-          few = omega (arith, room-left rows page none can, length-append rows (first_row page kind ∷ []));
-        }))
+    (record {
+      fit = all_push IsRow rows (first_row page kind) are.fit (record { some = some; page = within; kind = small; count = omega arith });
+      few = omega (arith, room-left rows page none can, length-append rows (first_row page kind ∷ []));
+    }))
     refl
 
 pub repaired-rows : (rows : List SuspectRow) (page : ℕ) → AreRows rows → AreRows (repaired page rows)
@@ -137,14 +137,14 @@ noted-stands image rows page kind h some within small can =
     let are = noted-rows rows page kind (are-rows image rows h) some within small can in
     by_bool (has_row page rows) (λ b. has_row page rows ≡ b → HasRows (put image (noted_sector page kind rows)) (noted page kind rows))
     (λ _ had.
-        let is = noted-had rows page kind had in
-        stands-with image rows (noted page kind rows) place h are (subst AreOnce (sym is) (once-map (noted_row page kind) (noted-keeps page kind) rows h.once))
-        (λ j apart. ap (part_of j) is ∙ part-same j place (map (noted_row page kind) rows) rows (length-map rows (noted_row page kind)) (elsewhere (noted_row page kind) page (noted_stays page kind) rows h.once) apart))
+    let is = noted-had rows page kind had in
+    stands-with image rows (noted page kind rows) place h are (subst AreOnce (sym is) (once-map (noted_row page kind) (noted-keeps page kind) rows h.once))
+    (λ j apart. ap (part_of j) is ∙ part-same j place (map (noted_row page kind) rows) rows (length-map rows (noted_row page kind)) (elsewhere (noted_row page kind) page (noted_stays page kind) rows h.once) apart))
     (λ _ none.
-        let is = noted-new rows page kind none can in
-        let behind : place ≡ length rows = place-behind (λ (row : SuspectRow). row.page == page) rows none in
-        stands-with image rows (noted page kind rows) place h are (subst AreOnce (sym is) (once-pushed rows (first_row page kind) h.once none))
-        (λ j apart. ap (part_of j) is ∙ part-pushed j rows (first_row page kind) (subst (λ (n : ℕ). j ≢ n / 16) behind apart)))
+    let is = noted-new rows page kind none can in
+    let behind : place ≡ length rows = place-behind (λ (row : SuspectRow). row.page == page) rows none in
+    stands-with image rows (noted page kind rows) place h are (subst AreOnce (sym is) (once-pushed rows (first_row page kind) h.once none))
+    (λ j apart. ap (part_of j) is ∙ part-pushed j rows (first_row page kind) (subst (λ (n : ℕ). j ≢ n / 16) behind apart)))
     refl
 
 pub repaired-stands : (image : Image) (rows : List SuspectRow) (page : ℕ) → HasRows image rows → has_row page rows ≡ true → HasRows (put image (repaired_sector page rows)) (repaired page rows)

@@ -1,5 +1,5 @@
 //! Reading the rows of a disk.
-ghost use Rattle.std.specs.Prelude.{◌≡◌, ◌⊎◌, ◌≤◌, ◌<◌, IsTrue, IfOk, OnOk, OnErr, IsErrOf};
+ghost use Rattle.std.specs.Prelude.{◌≡◌, ◌+◌, ◌/◌, ◌%◌, ◌⊎◌, ◌≤◌, ◌<◌, IsTrue, IfOk, OnOk, OnErr, IsErrOf};
 ghost use Rattle.ag_outside.specs.Counts.{HasRisen};
 ghost use Rattle.ag_outside.specs.Disks.{or_zeros};
 ghost use Rattle.ag_suspect.specs.ReadOnly.{OnlyReads, FailsReading};
@@ -27,9 +27,7 @@ pub(crate) fn read_rows<D: Disk>(
     let mut rows = Vec::new(alloc);
     let mut sector = [0; 512];
     for place in 0..1000 {
-        if place % 16 == 0 {
-            read_sector(disk, 1 + place / 16, &mut sector)?;
-        }
+        refill(disk, place, &mut sector)?;
         let row = row_at(&sector, (place % 16) as usize);
         if row.page == 0 {
             return Ok(rows);
@@ -37,6 +35,23 @@ pub(crate) fn read_rows<D: Disk>(
         rows.push(row)?;
     }
     Ok(rows)
+}
+
+/// Reads the sector of a place into the buffer, which has it already unless it is the sector's first place.
+fn refill<D: Disk>(disk: &mut D, place: u32, sector: &mut Sector) -> Result<(), SuspectFault>
+    requires place { place < 1000 }
+    requires size { 64 ≤ D.size disk.old }
+    requires before { IsTrue (D.keeps disk.old) → 0 < place % 16 → or_zeros (D.reads disk.old (1 + place / 16)) ≡ sector.old }
+    ensures sector { OnOk result (IsTrue (D.keeps disk.old) → or_zeros (D.reads disk.old (1 + place / 16)) ≡ sector.new) }
+    ensures stays { OnlyReads D.size D.keeps D.reads D.may_hold D.moment D.left_since D.faults D.did disk.old disk.new }
+    ensures only { OnErr result ((result ≡ Err SuspectFault.DiskFault) ⊎ (result ≡ Err SuspectFault.NoMemory)) }
+    ensures fault { IsErrOf result SuspectFault.DiskFault → HasRisen (D.faults disk.old) (D.faults disk.new) }
+    ensures broken { IsErrOf result SuspectFault.DiskFault → FailsReading D.did disk.old disk.new }
+{
+    if place % 16 != 0 {
+        return Ok(());
+    }
+    read_sector(disk, 1 + place / 16, sector)
 }
 
 /// Reads a sector, where a lost one counts as zeros.

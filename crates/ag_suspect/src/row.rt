@@ -1,5 +1,5 @@
 //! The bytes of rows, both ways. Neither way takes memory.
-ghost use Rattle.std.specs.Prelude.{◌≡◌, ◌*◌, ◌<◌, ◌≤◌, length, take, drop};
+ghost use Rattle.std.specs.Prelude.{◌≡◌, ◌+◌, ◌++◌, ◌*◌, ◌<◌, ◌≤◌, length, take, drop};
 ghost use Rattle.ag_suspect.specs.Rows.{row_spelling, row_in, rows_sector};
 
 use ag_model::answer::SuspectRow;
@@ -21,6 +21,14 @@ fn spell(row: &SuspectRow) -> [u8; 32]
     bytes
 }
 
+/// Writes a row at a place of a sector. Places count from 0.
+fn put(bytes: &mut Sector, place: usize, row: &SuspectRow)
+    requires { place < 16 }
+    ensures { bytes.new ≡ take (32 * place) bytes.old ++ (row_spelling row.now ++ drop (32 * place + 32) bytes.old) }
+{
+    bytes[ROW * place..ROW * place + ROW].copy_from_slice(&spell(row));
+}
+
 /// The sector of at most 16 rows.
 pub(crate) fn encode(rows: &[SuspectRow]) -> Sector
     requires { length rows.now ≤ 16 }
@@ -28,7 +36,7 @@ pub(crate) fn encode(rows: &[SuspectRow]) -> Sector
 {
     let mut bytes = [0; 512];
     for (i, row) in rows.iter().enumerate() {
-        bytes[ROW * i..ROW * i + ROW].copy_from_slice(&spell(row));
+        put(&mut bytes, i, row);
     }
     bytes
 }

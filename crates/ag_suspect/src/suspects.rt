@@ -1,5 +1,5 @@
 //! The suspect list in memory, which is kept on a disk.
-ghost use Rattle.std.specs.Prelude.{◌≡◌, ◌≢◌, ◌↔◌, ◌≤◌, [], ◌∷◌, true, false, length, map, IsTrue, IfOk, OnOk, OnErr, IsErrOf};
+ghost use Rattle.std.specs.Prelude.{◌≡◌, ◌≢◌, ◌↔◌, ◌≤◌, ◌==◌, [], ◌∷◌, true, false, length, position, IsTrue, IfOk, OnOk, OnErr, IsErrOf};
 ghost use Rattle.ag_outside.specs.Counts.{HasRisen};
 ghost use Rattle.ag_outside.specs.Disks.{put, SameImages, Only, IsImage};
 ghost use Rattle.ag_outside.specs.Calls.{IsReadOnly, TakesAll, FailsOnTheWay};
@@ -189,8 +189,7 @@ impl Suspects {
     fn place_of(&self, page: u16) -> usize
         ensures { result ≡ row_place page self.now }
     {
-        let place = self.rows.iter().position(|row| row.page == page);
-        place.unwrap_or(self.rows.len())
+        first_place(self.rows.as_slice(), page).unwrap_or(self.rows.len())
     }
 
     /// The rows once a page is noted.
@@ -223,6 +222,13 @@ impl Suspects {
         }
         Ok(rows)
     }
+}
+
+/// Where the first row of a page stands.
+fn first_place(rows: &[SuspectRow], page: u16) -> Option<usize>
+    ensures { result ≡ position (λ row. row.page == page) rows.now }
+{
+    rows.iter().position(|row| row.page == page)
 }
 
 /// A row once a page was noted.
