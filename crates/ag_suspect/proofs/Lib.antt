@@ -4,3 +4,4 @@ pub mod Bytes
 pub mod Found
 pub mod Changed
 pub mod Standing
+mod Scanning

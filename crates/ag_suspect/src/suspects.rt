@@ -194,7 +194,7 @@ impl Suspects {
 
     /// The rows once a page is noted.
     fn with_noted(&self, page: u16, kind: u8) -> Result<Vec<SuspectRow>, AllocError>
-        requires can { can_note page self.now ≡ true }
+        requires { can_note page self.now ≡ true }
         ensures { IfOk result (λ rows. rows.items ≡ noted page kind self.now) }
     {
         let mut rows = Vec::new(*self.rows.allocator());
