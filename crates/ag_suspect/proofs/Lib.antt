@@ -5,3 +5,4 @@ pub mod Found
 pub mod Changed
 pub mod Standing
 mod Scanning
+mod Left
