@@ -63,9 +63,9 @@ length-rows (row ∷ rows) = let ih = length-rows rows in omega (arith, length-a
 pub one_more : (rows : List SuspectRow) (i : ℕ) (bytes more : List ℕ) → i < length rows → length rows ≤ 16 → bytes ≡ flat_map row_spelling (take i rows) ++ replicate (512 - 32 * i) 0
     → more ≡ take (32 * i) bytes ++ (row_spelling (get_or rows i free_row) ++ drop (32 * i + 32) bytes) → more ≡ flat_map row_spelling (take (i + 1) rows) ++ replicate (512 - 32 * (i + 1)) 0
 one_more rows i bytes more lt few is put =
-    let done = flat_map row_spelling (take i rows) in
-    let row = row_spelling (get_or rows i free_row) in
-    let zeros = replicate (512 - 32 * i) 0 in
+    let done : List ℕ = flat_map row_spelling (take i rows) in
+    let row : List ℕ = row_spelling (get_or rows i free_row) in
+    let zeros : List ℕ = replicate (512 - 32 * i) 0 in
     let long : length done ≡ 32 * i = omega (arith, length-rows (take i rows), length-take i rows) in
     let front : take (32 * i) bytes ≡ done = ap (take (32 * i)) is ∙ take_at done zeros (32 * i) long in
     let back : drop (32 * i + 32) bytes ≡ replicate (512 - 32 * (i + 1)) 0 =

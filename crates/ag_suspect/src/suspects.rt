@@ -142,9 +142,9 @@ impl Suspects {
             return Err(SuspectFault::NotNoted);
         }
         let place = self.place_of(page);
-        let rows = self.with_noted(page, kind)?;
-        save(disk, rows.as_slice(), place)?;
-        self.rows = rows;
+        let noted_rows = self.with_noted(page, kind)?;
+        save(disk, noted_rows.as_slice(), place)?;
+        self.rows = noted_rows;
         Ok(())
     }
 

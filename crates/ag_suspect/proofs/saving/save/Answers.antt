@@ -52,7 +52,7 @@ returns-in-Err-sync-clause-broken g c = λ failed.
     let first = 1 + c.args.place / 16 in
     subst (λ (bytes : List ℕ). FailsOnTheWay g.D.Disk.did c.args.disk.now (record { first = first; sectors = bytes ∷ [] } ∷ []) c.sync.new.self) c.sector_of-sector.ensures
     (sync_failed g.D.Disk.did first (c.sector_of-sector.result ∷ []) c.args.disk.now c.write.new.self c.sync.new.self c.write.result c.sync.result c.write.ensures.did c.sync.ensures.did c.in-Ok.is
-        (c.in-Err-sync.is ∙ ap (λ e. Err e) (c.fault_of.ensures.failed (err_is failed))))
+    (c.in-Err-sync.is ∙ ap (λ e. Err e) (c.fault_of.ensures.failed (err_is failed))))
 
 pub returns-in-Err-clause-broken : goal.returns-in-Err-clause-broken
 returns-in-Err-clause-broken g c = λ failed.

@@ -20,7 +20,7 @@ invariant_of-self g c =
     let can : can_note c.args.page c.args.self.now ≡ true = sym c.can_note.ensures ∙ c.if-not-can_note.false in
     let within : c.args.page < 2 ^ 16 = omega arith in
     let small : c.args.kind < 2 ^ 8 = omega arith in
-    subst (λ (rows : List SuspectRow). AreRows rows) (sym c.in_ok-rows.ensures) (noted-rows c.args.self.now c.args.page c.args.kind (subst (λ (rows : List SuspectRow). AreRows rows) view c.self.invariant) c.requires.page within small can)
+    subst (λ (rows : List SuspectRow). AreRows rows) (sym c.in_ok-noted_rows.ensures) (noted-rows c.args.self.now c.args.page c.args.kind (subst (λ (rows : List SuspectRow). AreRows rows) view c.self.invariant) c.requires.page within small can)
 
 pub returns-clause-stands : goal.returns-clause-stands
 returns-clause-stands g c = λ k h.
@@ -33,6 +33,6 @@ returns-clause-stands g c = λ k h.
     let small : kind < 2 ^ 8 = omega arith in
     let saved : g.D.Disk.reads c.save.new.disk ≡ put old (noted_sector page kind rows) =
     c.in_ok-save.ensures.saved k ∙ ap (λ (n : ℕ). put old (sector_with n c.as_slice.result.now)) c.place_of-place.ensures
-    ∙ ap (λ (rs : List SuspectRow). put old (sector_with (row_place page rows) rs)) (c.as_slice.ensures.value ∙ c.in_ok-rows.ensures) in
+    ∙ ap (λ (rs : List SuspectRow). put old (sector_with (row_place page rows) rs)) (c.as_slice.ensures.value ∙ c.in_ok-noted_rows.ensures) in
     let stands = noted-stands old rows page kind h c.requires.page within small can in
-    subst (λ (image : Image). HasRows image c.in_ok-rows.rows.items) (sym saved) (subst (λ (rs : List SuspectRow). HasRows (put old (noted_sector page kind rows)) rs) (sym c.in_ok-rows.ensures) stands)
+    subst (λ (image : Image). HasRows image c.in_ok-noted_rows.noted_rows.items) (sym saved) (subst (λ (rs : List SuspectRow). HasRows (put old (noted_sector page kind rows)) rs) (sym c.in_ok-noted_rows.ensures) stands)
