@@ -1,11 +1,11 @@
 -- A row that was written is read again, also in a sector.
-use Rattle.std.proofs.Common.{◌≡◌, ℕ, zero, suc, ◌+◌, ◌-◌, ◌*◌, ◌<◌, ◌≤◌, ◌^◌, Bool, true, false, List, [], ◌∷◌, ◌++◌, length, get_or, take, drop, replicate, refl, sym, ap, subst, ◌∙◌, arith, append_assoc, length-append}
+use Rattle.std.proofs.Common.{◌≡◌, ℕ, zero, suc, ◌+◌, ◌-◌, ◌*◌, ◌<◌, ◌≤◌, Bool, true, false, List, [], ◌∷◌, ◌++◌, length, get_or, take, drop, replicate, refl, sym, ap, ◌∙◌, arith, append_assoc, length-append}
 use Rattle.std.proofs.lemmas.List.{take_at, take_all, take_more, drop_at, drop-drop, drop-replicate, take-replicate, length-take, flat_map_more}
 use Rattle.std.specs.Prelude.{if◌then◌else◌, ◌==◌}
-use Rattle.std.specs.Int.{w16, w32, to_be_bytes}
+use Rattle.std.specs.Int.{w16, w32}
 use Rattle.std.specs.List.{AllByRecursion, flat_map}
 use Rattle.ag_model.specs.declared.answer.SuspectRow.{SuspectRow}
-use Rattle.ag_model.proofs.Numbers.{front_number-written, length-to_be_bytes}
+use Rattle.ag_model.proofs.Numbers.{front_number-written}
 use Rattle.ag_suspect.specs.Rows.{IsRow, number, row_spelling, row_in, rows_sector}
 
 -- what stands in zeros

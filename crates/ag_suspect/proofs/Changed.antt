@@ -1,19 +1,15 @@
 -- What a change of one page's row leaves of the list, and of its sectors.
-use Rattle.std.proofs.Common.{◌≡◌, ◌≢◌, ◌⊎◌, ℕ, zero, suc, ◌+◌, ◌-◌, ◌*◌, ◌/◌, ◌%◌, ◌<◌, ◌≤◌, ◌^◌, Bool, true, false, cond, not, ◌||◌, List, [], ◌∷◌, ◌++◌, map, length, get_or, take, drop, refl, sym, ap, subst, ◌∙◌, arith, inl, inr}
-use Rattle.std.specs.Prelude.{Some, None, ◌==◌, nat_eq, nat_lt, unwrap_or, position, if◌then◌else◌}
+use Rattle.std.proofs.Common.{◌≡◌, ◌≢◌, ℕ, zero, suc, ◌+◌, ◌<◌, ◌≤◌, Bool, true, false, cond, not, ◌||◌, List, [], ◌∷◌, map, length, get_or, refl, ap, ◌∙◌, arith, inl, inr}
+use Rattle.std.specs.Prelude.{Some, None, ◌==◌, nat_eq, unwrap_or, position, if◌then◌else◌}
 use Rattle.std.proofs.lemmas.Bool.{cases_lt, lt-ltb, le-ltb}
 use Rattle.std.proofs.lemmas.List.Sums.{prefix_len-le-length}
 use Rattle.std.specs.List.{AllByRecursion, IsDistinct, list_any, position_or_len}
 use Rattle.std.proofs.lemmas.Bool.Decides.{eqb_tells, nat_tests}
-use Rattle.std.proofs.lemmas.List.{ext_get_or, get_or-take, get_or-drop, length-take, length-drop, length-map, length-append, take-append-le, drop-append-le, drop_all}
 use Rattle.ag_model.specs.declared.answer.SuspectRow.{SuspectRow}
-use Rattle.ag_lists.proofs.Each.{all_push}
 use Rattle.ag_lists.proofs.Tests.{by_bool}
-use Rattle.ag_outside.specs.declared.disk.SectorWrite.{SectorWrite}
-use Rattle.ag_outside.specs.Disks.{Content, Image, or_zeros, put}
-use Rattle.ag_rules.specs.Plan.{has_row, can_note, counted, noted, noted_row, repaired_row}
-use Rattle.ag_suspect.specs.Rows.{IsRow, rows_sector, AreRows, AreOnce, part_of, HasRows}
-use Rattle.ag_suspect.specs.Places.{row_place, repaired, sector_with, noted_sector, repaired_sector}
+use Rattle.ag_rules.specs.Plan.{has_row, counted, noted_row, repaired_row}
+use Rattle.ag_suspect.specs.Rows.{AreOnce}
+use Rattle.ag_suspect.specs.Places.{row_place, repaired}
 use Rattle.ag_suspect.proofs.Bytes.{free_row}
 
 -- whether a row is of a page

@@ -1,5 +1,5 @@
 -- What a crash leaves while one sector is written, and which calls the disk took.
-use Rattle.std.proofs.Common.{◌≡◌, ◌⊎◌, ℕ, Some, List, [], ◌∷◌, inl, inr, subst}
+use Rattle.std.proofs.Common.{ℕ, [], ◌∷◌, inl, inr}
 use Rattle.ag_outside.specs.declared.disk.SectorWrite.{SectorWrite}
 use Rattle.ag_outside.specs.Disks.{Content, Image, MayAdd, IsImage}
 use Rattle.ag_suspect.specs.Saving.{IsOldOrNew}

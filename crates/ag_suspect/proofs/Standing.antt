@@ -1,19 +1,19 @@
 -- An image that has some rows has the new ones once the one sector is written.
-use Rattle.std.proofs.Common.{◌≡◌, ◌≢◌, ◌⊎◌, ℕ, zero, suc, ◌+◌, ◌-◌, ◌*◌, ◌/◌, ◌<◌, ◌≤◌, ◌^◌, Bool, true, false, ◌||◌, List, [], ◌∷◌, ◌++◌, map, length, get_or, take, drop, refl, sym, ap, subst, ◌∙◌, arith, inl, inr}
+use Rattle.std.proofs.Common.{◌≡◌, ◌≢◌, ℕ, ◌+◌, ◌*◌, ◌/◌, ◌<◌, ◌≤◌, ◌^◌, Bool, true, false, ◌||◌, List, [], ◌∷◌, ◌++◌, map, length, get_or, take, drop, refl, sym, ap, subst, ◌∙◌, arith, inl, inr}
 use Rattle.std.specs.Prelude.{Some, ◌==◌, nat_eq, nat_lt, if◌then◌else◌}
-use Rattle.std.specs.List.{AllByRecursion, IsDistinct, list_any}
+use Rattle.std.specs.List.{AllByRecursion, IsDistinct}
 use Rattle.std.proofs.lemmas.Bool.{cases_lt}
 use Rattle.std.proofs.lemmas.Bool.Decides.{eqb_tells, nat_tests}
 use Rattle.std.proofs.lemmas.List.{ext_get_or, get_or-take, get_or-drop, length-take, length-drop, length-map, length-append, take-append-le, drop-append-le, drop_all, map-append}
 use Rattle.ag_model.specs.declared.answer.SuspectRow.{SuspectRow}
 use Rattle.ag_lists.proofs.Each.{all_push}
 use Rattle.ag_lists.proofs.Tests.{by_bool}
-use Rattle.ag_outside.specs.Disks.{Content, Image, or_zeros, put}
+use Rattle.ag_outside.specs.Disks.{Image, or_zeros, put}
 use Rattle.ag_rules.specs.Plan.{has_row, can_note, counted, noted, noted_row, repaired_row}
 use Rattle.ag_suspect.specs.Rows.{IsRow, rows_sector, AreRows, AreOnce, part_of, HasRows}
 use Rattle.ag_suspect.specs.Places.{row_place, repaired, sector_with, noted_sector, repaired_sector}
 use Rattle.ag_suspect.proofs.Bytes.{free_row}
-use Rattle.ag_suspect.proofs.Changed.{place-within, place-behind, elsewhere, none_repaired, repaired_stays, noted_stays}
+use Rattle.ag_suspect.proofs.Changed.{place-within, place-behind, elsewhere, repaired_stays, noted_stays}
 
 -- the sectors of other places
 part-same : (j place : ℕ) (xs ys : List SuspectRow) → length xs ≡ length ys → ((m : ℕ) → m ≢ place → get_or xs m free_row ≡ get_or ys m free_row) → j ≢ place / 16 → part_of j xs ≡ part_of j ys

@@ -1,5 +1,5 @@
 -- The suspect rows of a disk.
-use Rattle.std.specs.Prelude.{◌≡◌, ℕ, ◌+◌, ◌-◌, ◌*◌, ◌/◌, ◌%◌, ◌^◌, ◌<◌, ◌≤◌, List, [], ◌∷◌, ◌++◌, length, map, take, drop, replicate, slice_index, Bool, not, if◌then◌else◌, ◌==◌, nat_eq}
+use Rattle.std.specs.Prelude.{◌≡◌, ℕ, ◌+◌, ◌-◌, ◌*◌, ◌/◌, ◌%◌, ◌^◌, ◌<◌, ◌≤◌, List, ◌∷◌, ◌++◌, length, map, take, drop, replicate, slice_index, Bool, not, if◌then◌else◌, ◌==◌, nat_eq}
 use Rattle.std.specs.Int.{Width, w16, w32, byte_len, to_be_bytes, from_be_bytes}
 use Rattle.std.specs.List.{flat_map, range_with_len, take_while, AllByRecursion, IsDistinct}
 use Rattle.ag_model.specs.declared.answer.SuspectRow.{SuspectRow}

@@ -69,7 +69,11 @@ fn reload(alloc: Global, held: &mut Held) -> Option<SuspectFault> {
 }
 
 /// Reads a sector, if the disk has it.
-fn sector(disk: &mut Scripted<MemDisk>, at: u32, into: &mut [u8; 512]) -> Option<Result<Found, DiskError>> {
+fn sector(
+    disk: &mut Scripted<MemDisk>,
+    at: u32,
+    into: &mut [u8; 512],
+) -> Option<Result<Found, DiskError>> {
     if at >= disk.sectors() {
         return None;
     }
@@ -98,23 +102,38 @@ pub fn play(alloc: Global, held: &mut Held, line: &str) -> Result<String, AllocE
             format!(in alloc; "free")
         }
         "fail" => {
-            held.disk.arm(Arm::Fail { call: place(numbers, 0) });
+            held.disk.arm(Arm::Fail {
+                call: place(numbers, 0),
+            });
             format!(in alloc; "armed")
         }
         "stop" => {
-            held.disk.arm(Arm::Stop { write: place(numbers, 0), mask: number(numbers, 1) });
+            held.disk.arm(Arm::Stop {
+                write: place(numbers, 0),
+                mask: number(numbers, 1),
+            });
             format!(in alloc; "armed")
         }
         "note" => format!(in alloc; "{:?}", note(held, page(numbers, 0), byte(numbers, 1))),
-        "notes" => format!(in alloc; "{}", note_all(held, page(numbers, 0), page(numbers, 1), byte(numbers, 2))),
+        "notes" => format!(in alloc;
+            "{}",
+            note_all(held, page(numbers, 0), page(numbers, 1), byte(numbers, 2))
+        ),
         "mark" => format!(in alloc; "{:?}", mark(held, page(numbers, 0))),
-        "has" => format!(in alloc; "{} {}", held.list.has(page(numbers, 0)), held.list.can_note(page(numbers, 0))),
+        "has" => format!(in alloc;
+            "{} {}",
+            held.list.has(page(numbers, 0)),
+            held.list.can_note(page(numbers, 0))
+        ),
         "rows" => list_text(alloc, &held.list),
         "load" => {
             laws::rows_old_or_new::<Scripted<MemDisk>>();
             format!(in alloc; "{:?}", reload(alloc, held))
         }
-        "poke" => format!(in alloc; "{:?}", poke(&mut held.disk, place(numbers, 0), byte(numbers, 1))),
+        "poke" => format!(in alloc;
+            "{:?}",
+            poke(&mut held.disk, place(numbers, 0), byte(numbers, 1))
+        ),
         "bytes" => {
             let mut into = [0; 512];
             let found = sector(&mut held.disk, place(numbers, 0), &mut into);

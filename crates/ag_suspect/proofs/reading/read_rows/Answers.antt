@@ -3,7 +3,7 @@ use Rattle.std.specs.List.{AllByRecursion}
 use Rattle.ag_model.specs.declared.answer.SuspectRow.{SuspectRow}
 use Rattle.ag_lists.proofs.Each.{all_push}
 use Rattle.ag_outside.specs.Disks.{Image, or_zeros}
-use Rattle.ag_suspect.specs.Rows.{IsRow, slot_on}
+use Rattle.ag_suspect.specs.Rows.{IsRow}
 use Rattle.ag_suspect.proofs.Runs.{not_read, then_reads, reads_then_fails, handed_on}
 use Rattle.ag_suspect.proofs.Scanning.{slot-read, rest-more, rest-stop, rest-all}
 use Rattle.ag_suspect.proofs.reading.read_rows.Goals as goal

@@ -1,4 +1,4 @@
-use Rattle.std.proofs.Common.{◌≡◌, ℕ, ◌+◌, ◌-◌, ◌/◌, ◌%◌, ◌<◌, ◌++◌, map, length, IsTrue}
+use Rattle.std.proofs.Common.{◌≡◌, ◌+◌, ◌-◌, ◌/◌, ◌%◌, ◌<◌, ◌++◌, map, length, IsTrue}
 use Rattle.std.specs.List.{AllByRecursion, range_with_len, take_while}
 use Rattle.ag_outside.specs.Disks.{or_zeros}
 use Rattle.ag_suspect.specs.ReadOnly.{OnlyReads}

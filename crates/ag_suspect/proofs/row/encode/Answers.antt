@@ -1,5 +1,5 @@
-use Rattle.std.proofs.Common.{◌≡◌, ◌∙◌, arith}
-use Rattle.ag_suspect.specs.Rows.{row_spelling, rows_sector}
+use Rattle.std.proofs.Common.{◌∙◌, arith}
+use Rattle.ag_suspect.specs.Rows.{rows_sector}
 use Rattle.ag_suspect.proofs.Bytes.{one_more, all_put}
 use Rattle.ag_suspect.proofs.row.encode.Goals as goal
 

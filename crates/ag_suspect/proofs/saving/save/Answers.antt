@@ -1,4 +1,4 @@
-use Rattle.std.proofs.Common.{◌≡◌, ap, ◌∙◌, Err, inl, subst, List, ℕ, [], ◌∷◌, ◌+◌, ◌/◌, sym}
+use Rattle.std.proofs.Common.{ap, ◌∙◌, Err, inl, subst, List, ℕ, [], ◌∷◌, ◌+◌, ◌/◌}
 use Rattle.ag_lists.proofs.Results.{err_is}
 use Rattle.ag_outside.specs.Disks.{MayAdd}
 use Rattle.ag_outside.specs.Calls.{TakesAll, FailsOnTheWay}

@@ -3,7 +3,7 @@ use Rattle.ag_model.specs.declared.answer.SuspectRow.{SuspectRow}
 use Rattle.ag_outside.specs.Disks.{Image, put}
 use Rattle.ag_rules.specs.Plan.{has_row}
 use Rattle.ag_suspect.specs.Rows.{AreRows, HasRows}
-use Rattle.ag_suspect.specs.Places.{row_place, repaired, sector_with, repaired_sector}
+use Rattle.ag_suspect.specs.Places.{row_place, sector_with, repaired_sector}
 use Rattle.ag_suspect.proofs.Changed.{none_repaired}
 use Rattle.ag_suspect.proofs.Standing.{repaired-place, repaired-rows, repaired-stands}
 use Rattle.ag_suspect.proofs.suspects.Suspects.mark.Goals as goal

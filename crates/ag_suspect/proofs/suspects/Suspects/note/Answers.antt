@@ -1,7 +1,7 @@
 use Rattle.std.proofs.Common.{◌≡◌, ◌≤◌, ◌<◌, ◌^◌, ℕ, true, List, length, arith, sym, ap, subst, ◌∙◌}
 use Rattle.ag_model.specs.declared.answer.SuspectRow.{SuspectRow}
 use Rattle.ag_outside.specs.Disks.{Image, put}
-use Rattle.ag_rules.specs.Plan.{can_note, noted}
+use Rattle.ag_rules.specs.Plan.{can_note}
 use Rattle.ag_suspect.specs.Rows.{AreRows, HasRows}
 use Rattle.ag_suspect.specs.Places.{row_place, sector_with, noted_sector}
 use Rattle.ag_suspect.proofs.Standing.{noted-place, noted-rows, noted-stands}
