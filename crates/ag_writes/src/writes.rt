@@ -3,7 +3,8 @@ ghost use Rattle.std.specs.Prelude.{◌≡◌, if◌then◌else◌};
 ghost use Rattle.ag_rules.specs.Cut.{step_of, steps_of};
 ghost use Rattle.ag_writes.specs.Writes.{write_of, batch_of};
 
-use ag_model::record::{PageList, RecordList};
+use ag_model::page_set::PageSet;
+use ag_model::record::RecordList;
 use std::marker::Model;
 
 /// What the master sector is to say.
@@ -14,7 +15,7 @@ pub struct MasterWords {
     pub incarnation: u64,
     pub redo_start: u64,
     pub undo: u64,
-    pub foreign: PageList,
+    pub foreign: PageSet,
 }
 
 /// One write. The master's cuts the log at an LSN, its own end where nothing is cut.

@@ -4,7 +4,8 @@ ghost use Rattle.std.specs.List.{sum_by};
 ghost use Rattle.ag_writes_t.specs.RowHomes.{are_rows};
 
 use ag_model::list::ListOf;
-use ag_model::record::{PageList, Record};
+use ag_model::page_set::PageSet;
+use ag_model::record::Record;
 use ag_writes::{Batch, MasterWords, Write};
 use std::alloc::{AllocError, Global};
 
@@ -75,7 +76,7 @@ pub fn mixed(alloc: Global) -> Result<Batch, AllocError> {
         incarnation: 1,
         redo_start: 0,
         undo: 0,
-        foreign: PageList::new(alloc),
+        foreign: PageSet::empty(),
     };
     let master = Write::Master { master, log_end: 1 };
     let block = Write::Block { new };

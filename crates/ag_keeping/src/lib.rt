@@ -1,0 +1,4 @@
+//! What a replica keeps on its disk, as one record, and what each of its writes makes of it.
+#![tactic(auto)]
+
+pub mod laws;
