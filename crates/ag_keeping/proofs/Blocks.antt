@@ -1,5 +1,5 @@
 -- What a block more makes of an image.
-use Rattle.std.proofs.Common.{◌≡◌, ◌⊎◌, ℕ, ◌+◌, ◌<◌, ◌≤◌, List, [], ◌∷◌, length, Bool, true, false, if◌then◌else◌, refl, sym, ap, ◌∙◌, subst, arith, inl, inr}
+use Rattle.std.proofs.Common.{◌≡◌, ℕ, ◌<◌, List, false, if◌then◌else◌, sym, ap, ◌∙◌, subst, arith, inl}
 use Rattle.ag_model.specs.declared.record.Record.{Record}
 use Rattle.ag_model.specs.declared.record.Log.{Log}
 use Rattle.ag_model.specs.Blocks.{with_block}
@@ -8,8 +8,7 @@ use Rattle.ag_model.specs.Sizes.{block_sectors}
 use Rattle.ag_outside.specs.Disks.{Image, or_zeros, writes, put_all}
 use Rattle.ag_outside.specs.Scripts.{kept}
 use Rattle.ag_master.specs.Spelling.{fields}
-use Rattle.ag_logstore.specs.Stored.{Stored, sectors_of, IsLogSector, incarnation_at}
-use Rattle.ag_logstore.specs.LogOf.{IsLogOf}
+use Rattle.ag_logstore.specs.Stored.{Stored, sectors_of}
 use Rattle.ag_logstore.specs.Stores.{StoreView, IsCurrent, IsTorn, Follows, sector_after}
 use Rattle.ag_logstore.proofs.Standing.{put_stands}
 use Rattle.ag_logstore.proofs.Written.{is_writable, outside, current_with, torn_by_writes}
@@ -19,7 +18,6 @@ use Rattle.ag_kept.specs.Starting.{own_log}
 use Rattle.ag_kept.specs.Stopping.{stopped_image, log_where}
 use Rattle.ag_kept.proofs.Stops.{torn_by_mask, stopped_log, stopped_greatest}
 use Rattle.ag_suspect.specs.Rows.{suspects_on}
-use Rattle.ag_rules.specs.Replica.{Kept}
 use Rattle.ag_keeping.specs.Keeping.{cells_on, kept_on, IsKeeping, store_on, next_block}
 use Rattle.ag_keeping.specs.Meaning.{Says}
 use Rattle.ag_keeping.proofs.Built.{says_so, master_is, log_is}

@@ -1,5 +1,5 @@
 -- What an image keeps whose parts are known.
-use Rattle.std.proofs.Common.{◌≡◌, ℕ, ◌≤◌, List, refl, sym, ap, ◌∙◌, subst}
+use Rattle.std.proofs.Common.{◌≡◌, ℕ, ◌≤◌, List, sym, ap, ◌∙◌, subst}
 use Rattle.ag_model.specs.declared.answer.Cell.{Cell}
 use Rattle.ag_model.specs.declared.answer.SuspectRow.{SuspectRow}
 use Rattle.ag_model.specs.declared.record.Log.{Log}
@@ -12,8 +12,8 @@ use Rattle.ag_kept.specs.Standing.{HasLog}
 use Rattle.ag_kept.specs.Starting.{own_log}
 use Rattle.ag_kept.proofs.Finding.{log_on_is}
 use Rattle.ag_suspect.specs.Rows.{suspects_on, HasRows}
-use Rattle.ag_rules.specs.Replica.{Kept, Master}
-use Rattle.ag_keeping.specs.Keeping.{rules_master, cells_on, kept_on, IsKeeping}
+use Rattle.ag_rules.specs.Replica.{Kept}
+use Rattle.ag_keeping.specs.Keeping.{rules_master, cells_on, IsKeeping}
 use Rattle.ag_keeping.specs.Meaning.{Says}
 
 module _ (pages replica : ℕ) (image : Image) (m : SectorMaster) (fits : HasSpelling m) (spelled : or_zeros (image 0) ≡ spelling m) where

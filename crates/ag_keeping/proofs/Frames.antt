@@ -1,10 +1,9 @@
 -- What stays of an image that is written elsewhere.
-use Rattle.std.proofs.Common.{◌≡◌, ℕ, ◌+◌, ◌<◌, ◌≤◌, List, map, length, get_or, None, refl, sym, ap, ◌∙◌, arith}
+use Rattle.std.proofs.Common.{◌≡◌, ℕ, ◌+◌, ◌<◌, ◌≤◌, map, None, refl, sym, ap, ◌∙◌, arith}
 use Rattle.std.specs.List.{range_with_len}
 use Rattle.std.proofs.lemmas.List.{ext_get_or}
 use Rattle.std.proofs.lemmas.List.FromFn.{get_or-map-range_with_len, length-map-range_with_len}
-use Rattle.ag_model.specs.declared.answer.Cell.{Cell}
-use Rattle.ag_outside.specs.Disks.{Content, Image}
+use Rattle.ag_outside.specs.Disks.{Image}
 use Rattle.ag_page.specs.Home.{cells_of}
 use Rattle.ag_pagestore.specs.Places.{place, image_of, page_cells}
 use Rattle.ag_pagestore.proofs.Sixteen.{image-long, at_place}

@@ -1,10 +1,10 @@
 -- What a new master makes of an image.
-use Rattle.std.proofs.Common.{◌≡◌, ◌⊎◌, ℕ, ◌+◌, ◌<◌, ◌≤◌, ◌^◌, List, [], ◌∷◌, length, Some, Bool, true, false, cond, if◌then◌else◌, refl, sym, ap, ◌∙◌, subst, arith, inl, inr}
+use Rattle.std.proofs.Common.{◌≡◌, ◌⊎◌, ℕ, ◌<◌, ◌≤◌, length, Some, Bool, false, if◌then◌else◌, refl, sym, ap, ◌∙◌, subst, arith, inl, inr}
 use Rattle.std.specs.Prelude.{Contains}
 use Rattle.std.proofs.lemmas.Bool.{eq-eqb, ne_eqb}
 use Rattle.ag_model.specs.declared.record.Log.{Log}
 use Rattle.ag_model.specs.Blocks.{cut_at}
-use Rattle.ag_outside.specs.Disks.{Image, or_zeros, put}
+use Rattle.ag_outside.specs.Disks.{Image, or_zeros}
 use Rattle.ag_master.specs.declared.master.Master.{Master as SectorMaster}
 use Rattle.ag_master.specs.Spelling.{spelling, HasSpelling}
 use Rattle.ag_logblock.specs.Fitting.{header_of}
@@ -18,8 +18,8 @@ use Rattle.ag_kept.specs.Kept.{master_on}
 use Rattle.ag_kept.specs.Standing.{HasLog}
 use Rattle.ag_kept.specs.Starting.{own_log, with_master}
 use Rattle.ag_kept.proofs.Homes.{cut_at_end}
-use Rattle.ag_suspect.specs.Rows.{suspects_on, HasRows}
-use Rattle.ag_rules.specs.Replica.{Kept, Master}
+use Rattle.ag_suspect.specs.Rows.{suspects_on}
+use Rattle.ag_rules.specs.Replica.{Master}
 use Rattle.ag_keeping.specs.Keeping.{cells_on, kept_on, IsKeeping, store_on}
 use Rattle.ag_keeping.specs.Cutting.{sector_master, CanCut}
 use Rattle.ag_keeping.specs.Meaning.{Says}

@@ -1,15 +1,14 @@
 -- What single pieces mean.
-use Rattle.std.proofs.Common.{◌≡◌, ◌⊎◌, ℕ, zero, suc, ◌+◌, ◌<◌, ◌≤◌, ◌^◌, List, [], ◌∷◌, ◌++◌, length, take, map, Bool, true, false, if◌then◌else◌, refl, sym, ap, ◌∙◌, subst, arith, inl, inr}
+use Rattle.std.proofs.Common.{◌≡◌, ℕ, zero, suc, ◌+◌, ◌<◌, ◌≤◌, ◌^◌, List, [], ◌∷◌, take, Bool, true, false, if◌then◌else◌, refl, sym, subst, arith}
 use Rattle.std.specs.Prelude.{◌&&◌}
 use Rattle.std.proofs.lemmas.List.{append-nil}
 use Rattle.ag_model.specs.declared.record.Record.{Record}
-use Rattle.ag_model.specs.declared.record.Log.{Log}
 use Rattle.ag_model.specs.Blocks.{with_block}
 use Rattle.ag_model.specs.Cells.{keeps, keeps_all}
 use Rattle.ag_model.specs.Sizes.{block_sectors}
 use Rattle.ag_outside.specs.declared.disk.SectorWrite.{SectorWrite}
 use Rattle.ag_outside.specs.Calls.{Piece}
-use Rattle.ag_outside.specs.Disks.{Image, or_zeros, put, put_all, writes}
+use Rattle.ag_outside.specs.Disks.{Image, put, put_all, writes}
 use Rattle.ag_outside.specs.Scripts.{kept}
 use Rattle.ag_master.specs.Spelling.{spelling, HasSpelling}
 use Rattle.ag_logstore.specs.Stored.{sectors_of}

@@ -1,13 +1,12 @@
 -- What written pages make of an image.
-use Rattle.std.proofs.Common.{◌≡◌, ◌⊎◌, ℕ, zero, suc, ◌+◌, ◌-◌, ◌<◌, ◌≤◌, List, [], ◌∷◌, ◌++◌, length, take, map, get_or, set, refl, sym, ap, ◌∙◌, subst, arith, inl, inr}
-use Rattle.std.specs.List.{AllByRecursion, range_with_len, fold}
+use Rattle.std.proofs.Common.{◌≡◌, ◌⊎◌, ℕ, zero, suc, ◌+◌, ◌-◌, ◌<◌, ◌≤◌, List, [], ◌∷◌, ◌++◌, length, take, map, get_or, refl, sym, ap, ◌∙◌, subst, arith, inl, inr}
+use Rattle.std.specs.List.{AllByRecursion}
 use Rattle.std.proofs.lemmas.List.{ext_get_or, length-map, get_or-set_same, get_or-set_other, length-set}
 use Rattle.std.proofs.lemmas.List.FromFn.{get_or-map-range_with_len, length-map-range_with_len}
 use Rattle.std.proofs.lemmas.Bool.{cases_eq, cases_lt}
 use Rattle.ag_model.specs.declared.answer.Cell.{Cell}
 use Rattle.ag_model.specs.Cells.{mark_after, kept_cells, written_cells}
 use Rattle.ag_outside.specs.declared.disk.SectorWrite.{SectorWrite}
-use Rattle.ag_outside.specs.Calls.{Piece}
 use Rattle.ag_outside.specs.Disks.{Image, or_zeros, put_all, writes}
 use Rattle.ag_outside.specs.Scripts.{kept}
 use Rattle.ag_logblock.specs.Fitting.{header_of}
@@ -26,7 +25,7 @@ use Rattle.ag_pagestore.proofs.Pages.{pages_written, outside_stays}
 use Rattle.ag_pieces.specs.Pieces.{sectors_in}
 use Rattle.ag_suspect.specs.Rows.{suspects_on}
 use Rattle.ag_rules.specs.Replica.{Kept, image, with_image}
-use Rattle.ag_rules.specs.Plan.{Write, Page_write, batch_written, written}
+use Rattle.ag_rules.specs.Plan.{Write, Page_write, batch_written}
 use Rattle.ag_rules.specs.Cut.{batch_partly_written}
 use Rattle.ag_keeping.specs.Keeping.{cells_on, kept_on, IsKeeping}
 use Rattle.ag_keeping.specs.Meaning.{Says, Mean}

@@ -30,7 +30,7 @@ pub fn blocks_mean()
         → Mean pages replica image (record { first = sector_after (own_log image); sectors = sectors_of (next_block image term new) } ∷ []) (Block_write new ∷ []) }
     ensures current { (pages replica : ℕ) (image : Image) (term : ℕ) (new : List Record) → IsKeeping pages replica image → IsCurrent image (store_on image) → Follows (store_on image) (next_block image term new)
         → IsCurrent (put_all image (sectors_in (record { first = sector_after (own_log image); sectors = sectors_of (next_block image term new) } ∷ [])))
-            (store_on (put_all image (sectors_in (record { first = sector_after (own_log image); sectors = sectors_of (next_block image term new) } ∷ [])))) }
+        (store_on (put_all image (sectors_in (record { first = sector_after (own_log image); sectors = sectors_of (next_block image term new) } ∷ [])))) }
 {}
 
 /// The sector of a master that cuts the log where it may is the write of that master. A block can follow then where one

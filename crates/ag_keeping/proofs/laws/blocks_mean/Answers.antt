@@ -1,4 +1,4 @@
-use Rattle.std.proofs.Common.{sym, ap, subst}
+use Rattle.std.proofs.Common.{sym, subst}
 use Rattle.std.proofs.lemmas.List.{append-nil}
 use Rattle.ag_outside.specs.Disks.{put_all, writes}
 use Rattle.ag_logstore.specs.Stored.{sectors_of}
