@@ -1,0 +1,1 @@
+//! What events at one replica do, as events of the group.
