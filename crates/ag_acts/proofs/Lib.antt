@@ -1,1 +1,3 @@
-pub mod Sorted
+pub mod CutLaws
+pub mod ToldLaws
+pub mod Worked

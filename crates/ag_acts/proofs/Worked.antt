@@ -1,0 +1,2 @@
+-- Worked examples.
+use Rattle.std.proofs.Common.{◌≡◌, refl}
