@@ -6,12 +6,11 @@ use Rattle.std.proofs.lemmas.List.{set-get_or}
 use Rattle.ag_model.specs.declared.event.Suffix.{Suffix}
 use Rattle.ag_model.specs.declared.event.Suffix.TheVariants.{Whole, Stop, Fail}
 use Rattle.ag_model.specs.declared.event.Event.{Event}
-use Rattle.ag_model.specs.declared.answer.Answer.{Answer}
 use Rattle.ag_rules.specs.Replica.{fallen}
 use Rattle.ag_rules.specs.Group.{Group, replica, with_replica, link, with_link}
 use Rattle.ag_rules.specs.Plan.{Part, Plan, Posting, posted, here, at_node}
-use Rattle.ag_rules.specs.Cut.{cut, stopped, failed, stopped_disk, failed_disk, disk_before, all_writes}
-use Rattle.ag_rules.specs.Next.{named, done, at_session, session_of, with_token}
+use Rattle.ag_rules.specs.Cut.{cut, stopped, failed, stopped_disk, failed_disk, all_writes}
+use Rattle.ag_rules.specs.Next.{named, done, session_of, with_token}
 use Rattle.ag_acts.specs.declared.told.Told.{Told}
 use Rattle.ag_acts.specs.Acts.{told_of}
 use Rattle.ag_acts.specs.Parts.{asks_token, part_in, for_session}

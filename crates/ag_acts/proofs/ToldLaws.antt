@@ -1,6 +1,6 @@
 -- An event at one replica does there what its act does.
 use Rattle.std.proofs.Common.{◌≡◌, ℕ, Bool, true, false, if◌then◌else◌, Option, Some, None, refl, ap, ◌∙◌, subst}
-use Rattle.std.specs.Prelude.{◌==◌, IfSome, ◌↔◌}
+use Rattle.std.specs.Prelude.{◌==◌, IfSome}
 use Rattle.ag_model.specs.declared.event.Who.{Who}
 use Rattle.ag_model.specs.declared.event.Who.TheVariants.{Letter, Primary}
 use Rattle.ag_model.specs.declared.event.Suffix.{Suffix}
@@ -13,7 +13,6 @@ use Rattle.ag_rules.specs.Cut.{cut}
 use Rattle.ag_rules.specs.Next.{named, plan_of, suffix_of, done, apart}
 use Rattle.ag_rules.specs.SendEvent.{send_part}
 use Rattle.ag_rules.specs.AskEvent.{ask_part}
-use Rattle.ag_acts.specs.declared.act.Act.{Act}
 use Rattle.ag_acts.specs.declared.told.Told.{Told}
 use Rattle.ag_acts.specs.Acts.{told_of, is_of_group}
 use Rattle.ag_acts.specs.Parts.{named_here, with_other, for_session, part_in, plan_of_act, asks_token}

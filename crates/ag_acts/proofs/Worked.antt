@@ -1,25 +1,19 @@
 -- Worked examples: what events tell, what acts do at the opening of a group of two, and a part that is cut short.
-use Rattle.std.proofs.Common.{◌≡◌, ℕ, List, [], ◌∷◌, Bool, true, false, refl}
-use Rattle.std.specs.Prelude.{Option, Some, None}
+use Rattle.std.proofs.Common.{◌≡◌, [], ◌∷◌, true, false, refl}
+use Rattle.std.specs.Prelude.{Some, None}
 use Rattle.ag_model.specs.declared.record.Record.TheVariants.{Term}
-use Rattle.ag_model.specs.declared.config.Config.{Config}
 use Rattle.ag_model.specs.declared.config.Mode.TheVariants as Mode
-use Rattle.ag_model.specs.declared.config.Token.{Token}
 use Rattle.ag_model.specs.declared.event.Who.TheVariants.{Letter, Primary}
 use Rattle.ag_model.specs.declared.event.Event.TheVariants as E
 use Rattle.ag_model.specs.declared.event.Suffix.{Suffix}
 use Rattle.ag_model.specs.declared.event.Suffix.TheVariants.{Whole, Stop, Fail}
-use Rattle.ag_model.specs.declared.answer.Answer.{Answer}
-use Rattle.ag_model.specs.declared.answer.Answer.TheVariants.{No, Crashed, Hardened, Stopped, DeviceFailed, Snap}
+use Rattle.ag_model.specs.declared.answer.Answer.TheVariants.{No, Hardened, Stopped, DeviceFailed, Snap}
 use Rattle.ag_model.specs.declared.answer.Refusal.TheVariants.{Nothing}
 use Rattle.ag_model.specs.declared.message.Body.TheVariants.{Ack}
-use Rattle.ag_rules.specs.Replica.{Replica}
 use Rattle.ag_rules.specs.Group.{Group, opening, opening_replica, replica}
-use Rattle.ag_rules.specs.Plan.{Part, Here, Posting, Block_write, here}
+use Rattle.ag_rules.specs.Plan.{Part, Posting, Block_write, here}
 use Rattle.ag_rules.specs.CrashEvent.{crash_part}
-use Rattle.ag_rules.specs.Next.{done}
 use Rattle.ag_acts.specs.declared.act.Act.{Act}
-use Rattle.ag_acts.specs.declared.act.Act.TheVariants as Act
 use Rattle.ag_acts.specs.declared.act.TransactAct.TheVariants as Transact
 use Rattle.ag_acts.specs.declared.act.LeadAct.TheVariants as Lead
 use Rattle.ag_acts.specs.declared.act.FollowAct.TheVariants as Follow
@@ -28,8 +22,8 @@ use Rattle.ag_acts.specs.declared.act.DiskAct.TheVariants as Disk
 use Rattle.ag_acts.specs.declared.act.MemberAct.TheVariants as Member
 use Rattle.ag_acts.specs.Acts.{told_of, act_of, node_of, is_of_group}
 use Rattle.ag_acts.specs.Families.{transact_in, lead_in}
-use Rattle.ag_acts.specs.Parts.{Inputs, named_here, sends_to, asks_token, inputs_of, part_in, plan_of_act}
-use Rattle.ag_acts.specs.Cuts.{cut_short, links_after, tokens_after, group_after}
+use Rattle.ag_acts.specs.Parts.{named_here, sends_to, asks_token, inputs_of, part_in, plan_of_act}
+use Rattle.ag_acts.specs.Cuts.{cut_short, tokens_after, group_after}
 
 -- `send A @ fail 2` tells A to send to the primary
 sending : told_of (E.Send (Letter 0) Primary (Fail 2)) ≡ Some (record { node = Letter 0; act = Act.Lead (Lead.Send Primary); suffix = Fail 2 })

@@ -7,7 +7,6 @@ use Rattle.ag_model.specs.declared.event.Event.TheVariants.{Begin, Get, Put, Del
 use Rattle.ag_model.specs.declared.event.Event.TheVariants.{Close, Report, Flush, Crash, Start, Spoil, Unread, Ask, Suspects, Page, Sectors, Status, Cut, Mend, Join, Resume, Sync, Timeout}
 use Rattle.ag_model.specs.declared.event.Event.TheVariants.{Planned, Auto, Force, Finish}
 use Rattle.ag_acts.specs.declared.act.Act.{Act}
-use Rattle.ag_acts.specs.declared.act.Act.TheVariants as Act
 use Rattle.ag_acts.specs.declared.act.TransactAct.TheVariants as Transact
 use Rattle.ag_acts.specs.declared.act.LeadAct.TheVariants as Lead
 use Rattle.ag_acts.specs.declared.act.FollowAct.TheVariants as Follow

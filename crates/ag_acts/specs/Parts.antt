@@ -35,7 +35,6 @@ use Rattle.ag_rules.specs.CutEvent.{cut_part, mend_part}
 use Rattle.ag_rules.specs.JoinEvent.{join_part}
 use Rattle.ag_rules.specs.FinishEvent.{finish_part}
 use Rattle.ag_acts.specs.declared.act.Act.{Act}
-use Rattle.ag_acts.specs.declared.act.Act.TheVariants as Act
 use Rattle.ag_acts.specs.declared.act.TransactAct.{TransactAct}
 use Rattle.ag_acts.specs.declared.act.TransactAct.TheVariants as Transact
 use Rattle.ag_acts.specs.declared.act.LeadAct.{LeadAct}

@@ -3,9 +3,7 @@ ghost use Rattle.std.specs.Prelude.{◌≡◌};
 ghost use Rattle.ag_acts.specs.Acts.{act_of};
 ghost use Rattle.ag_acts.specs.Families.{transact_in, lead_in, follow_in, session_in, look_in, disk_in, member_in};
 
-use crate::act::{
-    DiskAct, FollowAct, LeadAct, LookAct, MemberAct, Pairs, SessionAct, TransactAct,
-};
+use crate::act::{DiskAct, FollowAct, LeadAct, LookAct, MemberAct, Pairs, SessionAct, TransactAct};
 use ag_model::event::Event;
 
 /// The act, if it is one of a transaction.
@@ -19,7 +17,10 @@ pub(crate) fn transact(event: &Event) -> Option<TransactAct<'_>>
             key: *key,
         }),
         Event::Put {
-            txn, key, value, ..
+            txn,
+            key,
+            value,
+            ..
         } => Some(TransactAct::Put {
             txn: *txn,
             key: *key,
