@@ -28,7 +28,8 @@ pub fn told_is_done()
 
 /// An act may be cut short at its replica: that gives the answer of the event, and the group after it.
 pub fn told_is_cut()
-    ensures cut { (suffix : Suffix) (g : Group) (n : ℕ) (s : Option ℕ) (part : Part) → cut suffix (for_session g n s part) ≡ for_session g n s (cut_short suffix (here g n) (replica g n) part) }
+    ensures cut { (suffix : Suffix) (g : Group) (n : ℕ) (s : Option ℕ) (part : Part)
+        → cut suffix (for_session g n s part) ≡ for_session g n s (cut_short suffix (here g n) (replica g n) part) }
     ensures answer { (g : Group) (e : Event) (t : Told) → told_of e ≡ Some t → (done g e).answer ≡ (told_part g t).answer }
     ensures after { (g : Group) (e : Event) (t : Told) → told_of e ≡ Some t → (done g e).after ≡ told_after g t }
 {}
