@@ -1,0 +1,4 @@
+pub mod Acts
+pub mod Cuts
+pub mod Families
+pub mod Parts
