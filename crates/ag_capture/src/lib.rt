@@ -6,8 +6,6 @@ mod blocks;
 mod capture;
 pub mod laws;
 mod peer;
-#[cfg(test)]
-mod tests;
 
 pub use ack::{Kind, NotYet};
 pub use capture::Capture;

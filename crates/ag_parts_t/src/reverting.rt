@@ -1,4 +1,5 @@
 //! Forks, touched pages and plans.
+use crate::masters::said_master;
 use crate::sets::{said_set, set_of};
 use crate::words::{next_number, next_small, next_word, number};
 use ag_master::Master;
@@ -89,15 +90,6 @@ fn plan_unspent(
         return None;
     }
     Some(plan(m, log_end, term, fork, end, touched))
-}
-
-/// A master as text.
-fn said_master(alloc: Global, m: &Master) -> Result<String, AllocError> {
-    let foreign = said_set(alloc, &m.foreign)?;
-    format!(in alloc;
-        "format {} state {} incarnation {} term {} cut {} undo {} redo {} pages {} replica {} foreign {foreign}",
-        m.format, m.state, m.incarnation, m.term, m.cut, m.undo, m.redo, m.pages, m.replica
-    )
 }
 
 /// The plan of replica A in a database of 16 pages: the words have its state, incarnation, term, redo start and foreign pages, then

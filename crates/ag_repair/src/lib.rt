@@ -3,7 +3,5 @@
 
 pub mod laws;
 mod repair;
-#[cfg(test)]
-mod tests;
 
 pub use repair::{Arrival, Giving, arrives, may_give, wanted};

@@ -3,7 +3,5 @@
 
 pub mod laws;
 mod session;
-#[cfg(test)]
-mod tests;
 
 pub use session::{SessionFault, check};

@@ -31,12 +31,12 @@ pub fn number(word: Option<&str>) -> u64 {
 }
 
 /// A number, and 0 where it doesn't fit.
-fn narrow(n: u64) -> u32 {
+pub fn narrow(n: u64) -> u32 {
     if n <= 0xffff_ffff { n as u32 } else { 0 }
 }
 
-/// The same of a byte.
-fn byte(n: u64) -> u8 {
+/// The same as a byte.
+pub fn byte(n: u64) -> u8 {
     if n <= 0xff { n as u8 } else { 0 }
 }
 

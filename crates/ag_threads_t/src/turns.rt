@@ -2,6 +2,7 @@
 use crate::answers::{Answer, Session};
 use crate::blocks::Write;
 use crate::hands::{Author, Bench, Hand, MOST, Naming};
+use crate::step::{byte, narrow};
 use ag_front::fault::FrontReadFault;
 use ag_model::stands::Steps;
 use std::alloc::Global;
@@ -163,8 +164,8 @@ pub fn look_back<T: Steps, N: Naming>(
 /// What a transaction of this number puts.
 fn write_of(txn: u64) -> Write {
     Write {
-        key: (txn % 48 * 7 % 48) as u32,
-        value: [(txn / 16 % 256) as u8, (txn % 16) as u8],
+        key: narrow(txn.wrapping_mul(7) % 48),
+        value: [byte(txn / 16), byte(txn % 16)],
     }
 }
 
