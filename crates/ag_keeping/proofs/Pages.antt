@@ -1,5 +1,5 @@
 -- What written pages make of an image.
-use Rattle.std.proofs.Common.{◌≡◌, ◌⊎◌, ℕ, zero, suc, ◌+◌, ◌-◌, ◌<◌, ◌≤◌, List, [], ◌∷◌, ◌++◌, length, take, map, get_or, refl, sym, ap, ◌∙◌, subst, arith, inl, inr}
+use Rattle.std.proofs.Common.{◌≡◌, ◌⊎◌, ℕ, zero, suc, ◌+◌, ◌-◌, ◌<◌, ◌≤◌, List, [], ◌∷◌, ◌++◌, length, take, map, get_or, false, refl, sym, ap, ◌∙◌, subst, arith, inl, inr}
 use Rattle.std.specs.List.{AllByRecursion}
 use Rattle.std.proofs.lemmas.List.{ext_get_or, length-map, get_or-set_same, get_or-set_other, length-set}
 use Rattle.std.proofs.lemmas.List.FromFn.{get_or-map-range_with_len, length-map-range_with_len}
@@ -11,7 +11,11 @@ use Rattle.ag_outside.specs.Disks.{Image, or_zeros, put_all, writes}
 use Rattle.ag_outside.specs.Scripts.{kept}
 use Rattle.ag_logblock.specs.Fitting.{header_of}
 use Rattle.ag_logstore.specs.Stored.{IsLogSector}
-use Rattle.ag_logstore.proofs.Chains.{region_alone}
+use Rattle.ag_model.specs.declared.record.Log.{Log}
+use Rattle.ag_master.specs.declared.master.Master.{Master as SectorMaster}
+use Rattle.ag_master.specs.Spelling.{spelling}
+use Rattle.ag_logstore.specs.Stores.{StoreView, IsCurrent}
+use Rattle.ag_logstore.proofs.Chains.{region_alone, current_alone}
 use Rattle.ag_kept.specs.Kept.{master_on}
 use Rattle.ag_kept.specs.Standing.{HasLog}
 use Rattle.ag_kept.specs.Starting.{own_log}
@@ -27,9 +31,9 @@ use Rattle.ag_suspect.specs.Rows.{suspects_on}
 use Rattle.ag_rules.specs.Replica.{Kept, image, with_image}
 use Rattle.ag_rules.specs.Plan.{Write, Page_write, batch_written}
 use Rattle.ag_rules.specs.Cut.{batch_partly_written}
-use Rattle.ag_keeping.specs.Keeping.{cells_on, kept_on, IsKeeping}
+use Rattle.ag_keeping.specs.Keeping.{cells_on, kept_on, IsKeeping, store_on}
 use Rattle.ag_keeping.specs.Meaning.{Says, Mean}
-use Rattle.ag_keeping.proofs.Built.{says_so}
+use Rattle.ag_keeping.proofs.Built.{says_so, master_is, log_is}
 use Rattle.ag_keeping.proofs.Frames.{same_cells}
 use Rattle.ag_keeping.proofs.Suspects.{rows_stay, suspects_stay}
 
@@ -43,7 +47,7 @@ sectors_first disk zero ws = refl
 sectors_first disk (suc n) [] = refl
 sectors_first disk (suc n) (w ∷ ws) = ap (λ (zs : List SectorWrite). writes (place w.page) (marked disk w) ++ zs) (sectors_first disk n ws)
 
-sectors_all : (disk : Image) (ws : List PageWrite) → sectors_in (pieces disk ws) ≡ sectors_written disk ws
+pub sectors_all : (disk : Image) (ws : List PageWrite) → sectors_in (pieces disk ws) ≡ sectors_written disk ws
 sectors_all disk [] = refl
 sectors_all disk (w ∷ ws) = ap (λ (zs : List SectorWrite). writes (place w.page) (marked disk w) ++ zs) (sectors_all disk ws)
 
@@ -224,6 +228,32 @@ module _ (pages replica : ℕ) (disk : Image) (h : IsKeeping pages replica disk)
       subst (Says pages replica now) (sym (whole_runs 0 (kept_on pages disk) ws))
       (pages_say whole_change 0 ws rises within now (λ at out. outside_stays disk disk ws at whole out)
       (written_changes disk now 0 ws (all_cells disk now ws whole (pages_written disk disk 16 ws rises whole))))
+
+  -- what memory has of the rest stays
+  pub record PagesKeep (now : Image) : Type 0 where
+    pub master : master_on now ≡ master_on disk
+    pub suspects : suspects_on now ≡ suspects_on disk
+    pub store : store_on now ≡ store_on disk
+    pub current : (t : StoreView) → IsCurrent disk t → IsCurrent now t
+
+  pub pages_keep : (ws : List PageWrite) → RisesFrom 16 ws → AllByRecursion IsWhole ws → PagesKeep (put_all disk (sectors_written disk ws))
+  pages_keep ws rises whole =
+      let now = put_all disk (sectors_written disk ws) in
+      let low : (at : ℕ) → at < 64 → now at ≡ disk at = λ at lt. outside_stays disk disk ws at whole (out_of_all at 16 ws (inl lt) rises) in
+      let log : (at : ℕ) → IsLogSector at → or_zeros (now at) ≡ or_zeros (disk at) = λ at is. ap or_zeros (outside_stays disk disk ws at whole (out_of_all at 16 ws (inr is.0) rises)) in
+      let spelled : or_zeros (now 0) ≡ spelling (master_on disk) = ap or_zeros (low 0 (omega arith)) ∙ h.spelled in
+      let there : HasLog now (master_on disk).cut (master_on disk).incarnation (own_log disk) = record {
+        is = region_alone disk now (master_on disk).cut (master_on disk).incarnation (own_log disk) h.log.is log;
+        greatest = λ at is. omega (arith, h.log.greatest at is, ap (λ bytes. (header_of bytes).head.incarnation) (log at is));
+      } in
+      let made : Log → SectorMaster → StoreView = λ l m. record { log = l; cut = m.cut; incarnation = m.incarnation; is_closed = false } in
+      let master = master_is pages replica now (master_on disk) h.fits spelled in
+      record {
+        master = master;
+        suspects = suspects_stay disk now (λ x from to. ap or_zeros (low x to));
+        store = ap (λ (l : Log). made l (master_on now)) (log_is pages replica now (master_on disk) h.fits spelled (own_log disk) there) ∙ ap (made (own_log disk)) master;
+        current = λ t cur. current_alone disk now t cur log;
+      }
 
   pub pages_mean : (ws : List PageWrite) → RisesFrom 16 ws → AllByRecursion IsWhole ws → AllByRecursion (λ w. w.page < 16 + pages) ws → Mean pages replica disk (pieces disk ws) (page_writes ws)
   pages_mean ws rises whole within = record {

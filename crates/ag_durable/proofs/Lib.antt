@@ -1,0 +1,10 @@
+pub mod Batches
+pub mod Singles
+pub mod Settled
+pub mod Appends
+pub mod Saves
+pub mod Rows
+pub mod Syncs
+pub mod Reading
+pub mod Firsts
+pub mod Pagings

@@ -1,0 +1,5 @@
+pub mod Views
+pub mod Standing
+pub mod Coming
+pub mod Following
+pub mod Opening
