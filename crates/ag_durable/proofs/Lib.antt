@@ -8,3 +8,4 @@ pub mod Syncs
 pub mod Reading
 pub mod Firsts
 pub mod Pagings
+pub mod Torn

@@ -9,6 +9,7 @@ mod noting;
 mod opening;
 mod paging;
 mod progress;
+mod reaching;
 mod saving;
 mod syncing;
 

@@ -12,7 +12,7 @@ use ag_model::record::RecordList;
 use ag_outside::mem_disk::MemDisk;
 use ag_outside::scripted::Scripted;
 use ag_pagestore::PageWrite;
-use ag_writes::MasterWords;
+use ag_writes::{MasterWords, Reach};
 use std::alloc::Global;
 
 /// What a script holds.
@@ -188,4 +188,12 @@ pub fn write_two(kept: &mut Durable<MemDisk>, first: u16, second: u16, byte: u8)
         return None;
     }
     Some(kept.write_pages(&[image(first, byte), image(second, byte)]))
+}
+
+/// How far the event came, unless a fault has left that open.
+pub fn reach(alloc: Global, kept: &mut Durable<MemDisk>) -> Option<Result<Reach, DurableFault>> {
+    if !is_known(kept) {
+        return None;
+    }
+    Some(kept.reach(alloc))
 }

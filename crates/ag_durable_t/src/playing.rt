@@ -42,6 +42,7 @@ fn on_data(
             let suffix = suffix_of(word(line, 1), numbers);
             return format!(in alloc; "{}", held::begin(alloc, kept, &suffix));
         }
+        "reach" => return format!(in alloc; "{:?}", held::reach(alloc, kept)),
         "progress" => return progress_text(alloc, kept),
         "log" => return log_text(alloc, kept),
         "master" => return master_text(alloc, kept),
