@@ -1,5 +1,5 @@
 -- What a block more makes of a replica's data.
-use Rattle.std.proofs.Common.{◌≡◌, ℕ, ◌+◌, ◌<◌, ◌≤◌, ◌^◌, List, [], ◌∷◌, length, refl, sym, ap, ◌∙◌, subst}
+use Rattle.std.proofs.Common.{◌≡◌, ℕ, ◌+◌, ◌<◌, ◌≤◌, ◌^◌, List, [], ◌∷◌, length, refl, sym, ap, ◌∙◌, subst, arith}
 use Rattle.ag_model.specs.declared.message.Block.{Block as BlockOf}
 use Rattle.ag_model.specs.declared.record.Record.{Record}
 use Rattle.ag_model.specs.Blocks.{with_block}
@@ -32,6 +32,7 @@ use Rattle.ag_durable.specs.declared.progress.Progress.{Progress}
 use Rattle.ag_durable.specs.Views.{DurableView}
 use Rattle.ag_durable.specs.Standing.{GoesOn, HoldsAt, Stands}
 use Rattle.ag_durable.specs.Coming.{step_passed, step_broken, WasOrdered, Performs}
+use Rattle.ag_durable.proofs.Touched.{apart_above}
 use Rattle.ag_durable.proofs.Singles.{IsStep, one_whole, step_passes, step_breaks}
 use Rattle.ag_pieces.specs.Pieces.{sectors_in}
 use Rattle.ag_durable.proofs.Settled.{Remembers, Did, on_taken, on_ok3, on_ok1, settled_performs, settled_stands, settled_risen}
@@ -139,10 +140,10 @@ module _ {D : Type 0} (size : D → ℕ) (keeps : D → Bool) (reads : D → Ima
     }
 
     pub append_performs : OnOk done (Performs reads old (Block_write block.records ∷ []) new)
-    append_performs = settled_performs size keeps reads may_hold faults old new (piece ∷ []) (Block_write block.records ∷ []) under goes facts.means refl refl went done why did
+    append_performs = settled_performs size keeps reads may_hold faults old new (piece ∷ []) (Block_write block.records ∷ []) under goes facts.means refl refl (apart_above piece (Block_write block.records ∷ []) (omega arith)) went done why did
 
     pub append_stands : log_end ≤ size disk.disk → Stands size keeps reads may_hold new
-    append_stands room = settled_stands size keeps reads may_hold faults old new (piece ∷ []) (Block_write block.records ∷ []) under goes facts.means refl refl went done why did room
+    append_stands room = settled_stands size keeps reads may_hold faults old new (piece ∷ []) (Block_write block.records ∷ []) under goes facts.means refl refl (apart_above piece (Block_write block.records ∷ []) (omega arith)) went done why did room
 
     pub append_risen : IsErrOf done DiskFault → HasRisen (faults old.disk.disk) (faults disk.disk)
-    append_risen = settled_risen size keeps reads may_hold faults old new (piece ∷ []) (Block_write block.records ∷ []) under goes facts.means refl refl went done why did
+    append_risen = settled_risen size keeps reads may_hold faults old new (piece ∷ []) (Block_write block.records ∷ []) under goes facts.means refl refl (apart_above piece (Block_write block.records ∷ []) (omega arith)) went done why did

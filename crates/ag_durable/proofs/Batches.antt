@@ -25,6 +25,7 @@ use Rattle.ag_durable.specs.declared.progress.Progress.{Progress}
 use Rattle.ag_durable.specs.Views.{came_so}
 use Rattle.ag_durable.specs.Coming.{passed, broken_by, WasOrdered}
 use Rattle.ag_rules.specs.Cut.{batch_partly_written, steps_kept}
+use Rattle.ag_durable.proofs.Touched.{WasOrWrote, part_wrote, none_wrote}
 
 -- the event is at its end
 abbrev pub HoldsOnly : Came → Type 0
@@ -103,6 +104,7 @@ module _ {D : Type 0} (keeps : D → Bool) (reads : D → Image) (may_hold : D �
       pub keeping : IsKeeping pages replica (reads_of reads new)
       pub reached : came_so q.came q (kept_on pages (reads_of reads new)) ≡ after_batch (came_so p.came p was) b
       pub rests : HoldsOnly q.came
+      pub wrote : WasOrWrote (reads_of reads old) ps (reads_of reads new)
 
     old_is : synced_of reads old ≡ reads_of reads old
     old_is = sym (synced_is keeps reads may_hold faults old none)
@@ -124,6 +126,7 @@ module _ {D : Type 0} (keeps : D → Bool) (reads : D → Image) (may_hold : D �
               ∙ sym (order_stops p.order w mask (record { order = p.order; kept = was; steps = p.steps; writes = p.writes; named = p.named }) b left within)
               ∙ sym (ap (λ (r : Reached). after_batch r b) before);
           rests = tt;
+          wrote = part_wrote (reads_of reads old) (reads_of reads new) ps mask (w + 1) now;
         })
 
     failed : FailsIn keeps reads old ps new → Broke (broken_by p.order p b)
@@ -139,6 +142,7 @@ module _ {D : Type 0} (keeps : D → Bool) (reads : D → Image) (may_hold : D �
               ∙ sym (order_fails p.order c (record { order = p.order; kept = was; steps = p.steps; writes = p.writes; named = p.named }) b left within)
               ∙ sym (ap (λ (r : Reached). after_batch r b) before);
           rests = tt;
+          wrote = none_wrote (reads_of reads old) (reads_of reads new) ps now;
         })
 
     by_why : (why : Why) → BatchEnds keeps reads faults old ps new why → WasOrdered why → Broke (broken_by p.order p b)

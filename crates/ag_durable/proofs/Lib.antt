@@ -1,3 +1,4 @@
+pub mod Touched
 pub mod Batches
 pub mod Singles
 pub mod Settled
@@ -9,3 +10,4 @@ pub mod Reading
 pub mod Firsts
 pub mod Pagings
 pub mod Torn
+pub mod Fetches

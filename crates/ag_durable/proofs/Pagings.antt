@@ -1,13 +1,13 @@
 -- What a batch of images makes of a replica's data.
-use Rattle.std.proofs.Common.{◌≡◌, ℕ, zero, suc, ◌+◌, ◌<◌, ◌≤◌, List, [], ◌∷◌, ◌++◌, length, take, map, Bool, true, false, IsTrue, if◌then◌else◌, Ok, Err, refl, sym, ap, ◌∙◌, subst, arith}
+use Rattle.std.proofs.Common.{◌≡◌, ℕ, zero, suc, ◌+◌, ◌<◌, ◌≤◌, List, [], ◌∷◌, ◌++◌, length, take, map, Bool, true, false, IsTrue, if◌then◌else◌, Ok, Err, refl, sym, ap, ◌∙◌, subst, arith, ◌⊎◌}
 use Rattle.std.specs.Prelude.{Result, OnOk, OnErr, IsErr, IsErrOf}
 use Rattle.std.specs.List.{AllByRecursion}
-use Rattle.std.proofs.lemmas.List.{length-map}
+use Rattle.std.proofs.lemmas.List.{length-map, append-nil}
 use Rattle.ag_model.specs.Cells.{keeps_all}
 use Rattle.ag_outside.specs.declared.order.Why.{Why}
 use Rattle.ag_outside.specs.Counts.{HasRisen}
 use Rattle.ag_outside.specs.Calls.{TakesAll, FailsOnTheWay}
-use Rattle.ag_outside.specs.Disks.{Content, Image, Only, put_all}
+use Rattle.ag_outside.specs.Disks.{Content, Image, Only, WroteSo, put_all}
 use Rattle.ag_outside.specs.Scripts.{ScriptedView}
 use Rattle.ag_outside.specs.Shown.{reads_of, holds_of, did_of}
 use Rattle.ag_logstore.specs.Stored.{log_end}
@@ -16,7 +16,10 @@ use Rattle.ag_kept.specs.Kept.{master_on}
 use Rattle.ag_pagestore.specs.declared.batch.PageWrite.{PageWrite}
 use Rattle.ag_pagestore.specs.declared.fault.PageWriteFault.{PageWriteFault}
 use Rattle.ag_pagestore.specs.declared.fault.PageWriteFault.TheVariants.{DiskFault as PageDiskFault}
-use Rattle.ag_pagestore.specs.Batches.{IsBatch, IsWhole, written, pieces}
+use Rattle.ag_pagestore.specs.Batches.{IsBatch, IsWhole, RisesFrom, written, pieces}
+use Rattle.ag_pagestore.specs.Moments.{IsOldNewOrUnsound}
+use Rattle.ag_pagestore.proofs.Pages.{disk_left, is_written}
+use Rattle.ag_outside.specs.declared.disk.SectorWrite.{SectorWrite}
 use Rattle.ag_pieces.specs.Pieces.{sectors_in}
 use Rattle.ag_suspect.specs.Rows.{suspects_on}
 use Rattle.ag_rules.specs.Cut.{steps_of, steps_kept}
@@ -31,10 +34,12 @@ use Rattle.ag_durable.specs.declared.fault.DurableFault.TheVariants.{DiskFault, 
 use Rattle.ag_durable.specs.declared.progress.Came.TheVariants.{Underway, Stopped, Unknown}
 use Rattle.ag_durable.specs.declared.progress.Progress.{Progress}
 use Rattle.ag_durable.specs.Views.{DurableView}
+use Rattle.ag_durable.specs.Imaging.{WritesImages}
 use Rattle.ag_durable.specs.Standing.{GoesOn, HoldsAt, Stands}
 use Rattle.ag_durable.specs.Coming.{passed, broken_by, pages_passed, pages_broken, WasOrdered, Performs}
+use Rattle.ag_durable.proofs.Touched.{WasOrWrote, pages_apart}
 use Rattle.ag_durable.proofs.Batches.{IsWithin}
-use Rattle.ag_durable.proofs.Settled.{Remembers, Did, on_taken, on_ok1, settled_performs, settled_stands, settled_risen}
+use Rattle.ag_durable.proofs.Settled.{Remembers, Did, on_taken, on_ok1, settled_performs, settled_wrote, settled_all, settled_stands, settled_risen}
 
 -- the pages of some writes
 abbrev pub pages_of : List PageWrite → List ℕ
@@ -153,10 +158,24 @@ module _ {D : Type 0} (size : D → ℕ) (keeps : D → Bool) (reads : D → Ima
     }
 
     pub pages_perform : OnOk done (Performs reads old (page_writes ws) new)
-    pages_perform = settled_performs size keeps reads may_hold faults old new (pieces was ws) (page_writes ws) under goes means refl refl went done why did
+    pages_perform = settled_performs size keeps reads may_hold faults old new (pieces was ws) (page_writes ws) under goes means refl refl (pages_apart was ws whole) went done why did
+
+    images_from : (t : Result (Unit {0}) DurableFault) → OnOk t (WasOrWrote was (pieces was ws) (reads_of reads disk)) → OnOk t (q.came ≡ Underway → reads_of reads disk ≡ put_all was (sectors_in (pieces was ws))) → OnOk t (WritesImages reads old ws new)
+    images_from (Ok u) wrote all = record {
+      each = subst (λ (zs : List PageWrite). AllByRecursion (IsOldNewOrUnsound was (reads_of reads disk)) zs) (append-nil ws)
+          (disk_left was (reads_of reads disk) ws [] (subst (RisesFrom 16) (sym (append-nil ws)) batch.rises) whole
+          (λ at. subst (λ (zs : List SectorWrite). (reads_of reads disk at ≡ was at) ⊎ WroteSo zs at (reads_of reads disk at)) (sectors_all was ws) (wrote at))).pages;
+      written = λ on. (is_written was (reads_of reads disk) ws batch.rises whole (all on ∙ ap (put_all was) (sectors_all was ws))).pages;
+    }
+    images_from (Err e) wrote all = tt
+
+    pub pages_image : OnOk done (WritesImages reads old ws new)
+    pages_image = images_from done
+        (settled_wrote size keeps reads may_hold faults old new (pieces was ws) (page_writes ws) under goes means refl refl (pages_apart was ws whole) went done why did)
+        (settled_all size keeps reads may_hold faults old new (pieces was ws) (page_writes ws) under goes means refl refl (pages_apart was ws whole) went done why did)
 
     pub pages_stand : log_end ≤ size disk.disk → Stands size keeps reads may_hold new
-    pages_stand room = settled_stands size keeps reads may_hold faults old new (pieces was ws) (page_writes ws) under goes means refl refl went done why did room
+    pages_stand room = settled_stands size keeps reads may_hold faults old new (pieces was ws) (page_writes ws) under goes means refl refl (pages_apart was ws whole) went done why did room
 
     pub pages_rise : IsErrOf done DiskFault → HasRisen (faults old.disk.disk) (faults disk.disk)
-    pages_rise = settled_risen size keeps reads may_hold faults old new (pieces was ws) (page_writes ws) under goes means refl refl went done why did
+    pages_rise = settled_risen size keeps reads may_hold faults old new (pieces was ws) (page_writes ws) under goes means refl refl (pages_apart was ws whole) went done why did

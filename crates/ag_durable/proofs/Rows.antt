@@ -1,5 +1,5 @@
 -- What one sector of suspect rows makes of a replica's data.
-use Rattle.std.proofs.Common.{◌≡◌, ℕ, ◌<◌, ◌≤◌, ◌^◌, List, [], ◌∷◌, Bool, true, IsTrue, Ok, Err, refl, sym, ap, ◌∙◌, subst}
+use Rattle.std.proofs.Common.{◌≡◌, ℕ, ◌<◌, ◌≤◌, ◌^◌, List, [], ◌∷◌, Bool, true, IsTrue, Ok, Err, refl, sym, ap, ◌∙◌, subst, arith}
 use Rattle.std.specs.Prelude.{Result, IfOk, OnOk, OnErr, IsErr, IsErrOf}
 use Rattle.ag_model.specs.declared.answer.SuspectRow.{SuspectRow}
 use Rattle.ag_outside.specs.declared.disk.SectorWrite.{SectorWrite}
@@ -30,6 +30,7 @@ use Rattle.ag_durable.specs.declared.progress.Progress.{Progress}
 use Rattle.ag_durable.specs.Views.{DurableView}
 use Rattle.ag_durable.specs.Standing.{GoesOn, HoldsAt, Stands}
 use Rattle.ag_durable.specs.Coming.{step_passed, step_broken, WasOrdered, Performs}
+use Rattle.ag_durable.proofs.Touched.{IsApart, apart_below}
 use Rattle.ag_durable.proofs.Singles.{IsStep, one_whole, step_passes, step_breaks}
 use Rattle.ag_pieces.specs.Pieces.{sectors_in}
 use Rattle.ag_outside.specs.Disks.{put_all}
@@ -70,6 +71,9 @@ module _ {D : Type 0} (size : D → ℕ) (keeps : D → Bool) (reads : D → Ima
       (calls : OnOk r (TakesAll (did_of keeps reads may_hold faults) old.disk (piece_of s ∷ []) disk)) (broken : IsErrOf r RowDiskFault → FailsOnTheWay (did_of keeps reads may_hold faults) old.disk (piece_of s ∷ []) disk)
       (passes : OnOk done (OnOk went (q ≡ step_passed old.progress))) (breaks : OnOk done (IsErrOf went DiskFault → WasOrdered why × (q ≡ step_broken old.progress.order old.progress 1)))
       (known : OnOk done (went ≡ Err NoMemory → ⊥)) (fault : IsErrOf done DiskFault → (went ≡ Err DiskFault) × (WasOrdered why → ⊥)) (unknown : OnErr done (q.came ≡ Unknown)) where
+    apart : IsApart (piece_of s ∷ []) (w ∷ [])
+    apart = apart_below (piece_of s) (w ∷ []) (omega (arith, high))
+
     did : Did size keeps reads may_hold faults old new ((piece_of s) ∷ []) (w ∷ []) went done why
     did = record {
       why_is = why_is;
@@ -86,13 +90,13 @@ module _ {D : Type 0} (size : D → ℕ) (keeps : D → Bool) (reads : D → Ima
     }
 
     pub row_performs : OnOk done (Performs reads old (w ∷ []) new)
-    row_performs = settled_performs size keeps reads may_hold faults old new ((piece_of s) ∷ []) (w ∷ []) under goes means refl refl went done why did
+    row_performs = settled_performs size keeps reads may_hold faults old new ((piece_of s) ∷ []) (w ∷ []) under goes means refl refl apart went done why did
 
     pub row_stands : log_end ≤ size disk.disk → Stands size keeps reads may_hold new
-    row_stands room = settled_stands size keeps reads may_hold faults old new ((piece_of s) ∷ []) (w ∷ []) under goes means refl refl went done why did room
+    row_stands room = settled_stands size keeps reads may_hold faults old new ((piece_of s) ∷ []) (w ∷ []) under goes means refl refl apart went done why did room
 
     pub row_risen : IsErrOf done DiskFault → HasRisen (faults old.disk.disk) (faults disk.disk)
-    row_risen = settled_risen size keeps reads may_hold faults old new ((piece_of s) ∷ []) (w ∷ []) under goes means refl refl went done why did
+    row_risen = settled_risen size keeps reads may_hold faults old new ((piece_of s) ∷ []) (w ∷ []) under goes means refl refl apart went done why did
 
 -- what a change of the rows writes, and what it means
 pub record RowFacts (pages replica : ℕ) (image : Image) (s : SectorWrite) (w : Write) (then : List SuspectRow) : Type 0 where

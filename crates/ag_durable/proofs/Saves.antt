@@ -33,6 +33,7 @@ use Rattle.ag_durable.specs.Views.{DurableView}
 use Rattle.ag_durable.specs.Standing.{GoesOn, HoldsAt, Stands}
 use Rattle.ag_durable.specs.Coming.{step_passed, step_broken, WasOrdered, Performs}
 use Rattle.ag_durable.specs.Following.{log_after, Follows}
+use Rattle.ag_durable.proofs.Touched.{apart_below}
 use Rattle.ag_durable.proofs.Singles.{IsStep, one_whole, step_passes, step_breaks}
 use Rattle.ag_pieces.specs.Pieces.{sectors_in}
 use Rattle.ag_outside.specs.Disks.{put_all}
@@ -161,10 +162,10 @@ module _ {D : Type 0} (size : D → ℕ) (keeps : D → Bool) (reads : D → Ima
     }
 
     pub save_performs : OnOk done (Performs reads old (Master_write m end ∷ []) new)
-    save_performs = settled_performs size keeps reads may_hold faults old new (piece ∷ []) (Master_write m end ∷ []) under goes facts.means (pages_by went follows stays).0 (pages_by went follows stays).1 went done why did
+    save_performs = settled_performs size keeps reads may_hold faults old new (piece ∷ []) (Master_write m end ∷ []) under goes facts.means (pages_by went follows stays).0 (pages_by went follows stays).1 (apart_below piece (Master_write m end ∷ []) (omega arith)) went done why did
 
     pub save_stands : log_end ≤ size disk.disk → Stands size keeps reads may_hold new
-    save_stands room = settled_stands size keeps reads may_hold faults old new (piece ∷ []) (Master_write m end ∷ []) under goes facts.means (pages_by went follows stays).0 (pages_by went follows stays).1 went done why did room
+    save_stands room = settled_stands size keeps reads may_hold faults old new (piece ∷ []) (Master_write m end ∷ []) under goes facts.means (pages_by went follows stays).0 (pages_by went follows stays).1 (apart_below piece (Master_write m end ∷ []) (omega arith)) went done why did room
 
     pub save_risen : IsErrOf done DiskFault → HasRisen (faults old.disk.disk) (faults disk.disk)
-    save_risen = settled_risen size keeps reads may_hold faults old new (piece ∷ []) (Master_write m end ∷ []) under goes facts.means (pages_by went follows stays).0 (pages_by went follows stays).1 went done why did
+    save_risen = settled_risen size keeps reads may_hold faults old new (piece ∷ []) (Master_write m end ∷ []) under goes facts.means (pages_by went follows stays).0 (pages_by went follows stays).1 (apart_below piece (Master_write m end ∷ []) (omega arith)) went done why did

@@ -22,6 +22,7 @@ use Rattle.ag_durable.specs.declared.progress.Progress.{Progress}
 use Rattle.ag_durable.specs.Views.{DurableView, came_so}
 use Rattle.ag_durable.specs.Standing.{IsAtRest, GoesOn, HoldsAt, Stands}
 use Rattle.ag_durable.specs.Coming.{passed, broken_by, WasOrdered, Performs}
+use Rattle.ag_durable.proofs.Touched.{WasOrWrote, IsApart, whole_wrote, others_stay}
 use Rattle.ag_durable.proofs.Batches.{Broke, HoldsOnly, broken_so, risen, IsWithin, within_only, through_settled, through_ahead, through_ordered, through_says, through_reached}
 
 -- a call that is refused where another one is
@@ -69,7 +70,7 @@ module _ {D : Type 0} (size : D → ℕ) (keeps : D → Bool) (reads : D → Ima
 
   module _ (ps : List Piece) (b : Batch) (under : old.progress.came ≡ Underway) (goes : GoesOn keeps reads may_hold old)
       (means : Mean old.master.pages old.master.replica (reads_of reads old.disk) ps b)
-      (pages : new.master.pages ≡ old.master.pages) (replica : new.master.replica ≡ old.master.replica) where
+      (pages : new.master.pages ≡ old.master.pages) (replica : new.master.replica ≡ old.master.replica) (apart : IsApart ps b) where
     -- the batch went through
     module _ (took : TakesAll (did_of keeps reads may_hold faults) old.disk ps new.disk) (now : reads_of reads new.disk ≡ put_all (reads_of reads old.disk) (sectors_in ps))
         (all_passed : new.progress ≡ passed old.progress b) where
@@ -83,6 +84,7 @@ module _ {D : Type 0} (size : D → ℕ) (keeps : D → Bool) (reads : D → Ima
             ∙ through_reached keeps reads may_hold faults old.master.pages old.master.replica old.disk new.disk ps b p under goes.rest.modelled goes.rest.unsynced means goes.ahead goes.ordered goes.rest.keeping took now;
         pages = pages;
         replica = replica;
+        others = others_stay (reads_of reads old.disk) (reads_of reads new.disk) ps b (whole_wrote (reads_of reads old.disk) (reads_of reads new.disk) ps now) apart;
       }
 
       pub went_goes : Remembers → GoesOn keeps reads may_hold new
@@ -129,6 +131,7 @@ module _ {D : Type 0} (size : D → ℕ) (keeps : D → Bool) (reads : D → Ima
               ∙ (ends so).reached;
           pages = pages;
           replica = replica;
+          others = others_stay (reads_of reads old.disk) (reads_of reads new.disk) ps b (ends so).wrote apart;
         }
 
         pub broke_rests : IsAtRest keeps reads new
@@ -147,6 +150,23 @@ module _ {D : Type 0} (size : D → ℕ) (keeps : D → Bool) (reads : D → Ima
         pub broke_holds : HoldsAt keeps reads may_hold new new.progress.came
         broke_holds = rest_at new.progress.came (subst (λ (q : Progress). HoldsOnly q.came) (sym all_broken) (ends so).rests)
 
+    -- each sector has what it had, or what was written
+    wrote_by : (went done : Result (Unit {0}) DurableFault) (why : Why) → Did ps b went done why → OnOk done (WasOrWrote (reads_of reads old.disk) ps (reads_of reads new.disk))
+    wrote_by (Ok u) (Ok v) why d = whole_wrote (reads_of reads old.disk) (reads_of reads new.disk) ps d.wrote
+    wrote_by (Err DiskFault) (Ok v) why d = (let so = subst WasOrdered d.why_is (d.breaks refl).0 in (ends (d.broke refl) so).wrote)
+    wrote_by (Err NoMemory) (Ok v) why d = absurd (d.known refl)
+    wrote_by went (Err e) why d = tt
+
+    -- where more can be written, all was written
+    all_by : (went done : Result (Unit {0}) DurableFault) (why : Why) → Did ps b went done why → OnOk done (new.progress.came ≡ Underway → reads_of reads new.disk ≡ put_all (reads_of reads old.disk) (sectors_in ps))
+    all_by (Ok u) (Ok v) why d = λ on. d.wrote
+    all_by (Err DiskFault) (Ok v) why d =
+        let t = d.breaks refl in
+        let so = subst WasOrdered d.why_is t.0 in
+        λ on. absurd (subst HoldsOnly (sym (ap (λ (q : Progress). q.came) (t.1 (within (d.broke refl) so))) ∙ on) (ends (d.broke refl) so).rests)
+    all_by (Err NoMemory) (Ok v) why d = absurd (d.known refl)
+    all_by went (Err e) why d = tt
+
     -- all of it
     by_cases : (went done : Result (Unit {0}) DurableFault) (why : Why) → Did ps b went done why → OnOk done (Performs reads old b new) × HoldsAt keeps reads may_hold new new.progress.came
     by_cases (Ok u) (Ok v) why d = (
@@ -163,6 +183,12 @@ module _ {D : Type 0} (size : D → ℕ) (keeps : D → Bool) (reads : D → Ima
     module _ (went done : Result (Unit {0}) DurableFault) (why : Why) (d : Did ps b went done why) where
       pub settled_performs : OnOk done (Performs reads old b new)
       settled_performs = (by_cases went done why d).0
+
+      pub settled_wrote : OnOk done (WasOrWrote (reads_of reads old.disk) ps (reads_of reads new.disk))
+      settled_wrote = wrote_by went done why d
+
+      pub settled_all : OnOk done (new.progress.came ≡ Underway → reads_of reads new.disk ≡ put_all (reads_of reads old.disk) (sectors_in ps))
+      settled_all = all_by went done why d
 
       pub settled_stands : log_end ≤ size new.disk.disk → Stands size keeps reads may_hold new
       settled_stands room = record { room = room; holds = (by_cases went done why d).1 }

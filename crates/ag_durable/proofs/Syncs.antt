@@ -26,6 +26,7 @@ use Rattle.ag_durable.specs.declared.progress.Progress.{Progress}
 use Rattle.ag_durable.specs.Views.{DurableView}
 use Rattle.ag_durable.specs.Standing.{GoesOn, HoldsAt, Stands}
 use Rattle.ag_durable.specs.Coming.{passed, broken_by, sync_passed, sync_broken, WasOrdered, Performs}
+use Rattle.ag_durable.proofs.Touched.{apart_none}
 use Rattle.ag_durable.proofs.Batches.{IsWithin}
 use Rattle.ag_durable.proofs.Settled.{Remembers, Did, on_taken, on_ok1, settled_performs, settled_stands, settled_risen}
 
@@ -102,10 +103,10 @@ module _ {D : Type 0} (size : D → ℕ) (keeps : D → Bool) (reads : D → Ima
     }
 
     pub sync_performs : OnOk done (Performs reads old [] new)
-    sync_performs = settled_performs size keeps reads may_hold faults old new [] [] under goes (sync_means old.master.pages old.master.replica (reads_of reads old.disk) goes.rest.keeping) refl refl went done why did
+    sync_performs = settled_performs size keeps reads may_hold faults old new [] [] under goes (sync_means old.master.pages old.master.replica (reads_of reads old.disk) goes.rest.keeping) refl refl (apart_none []) went done why did
 
     pub sync_stands : log_end ≤ size disk.disk → Stands size keeps reads may_hold new
-    sync_stands room = settled_stands size keeps reads may_hold faults old new [] [] under goes (sync_means old.master.pages old.master.replica (reads_of reads old.disk) goes.rest.keeping) refl refl went done why did room
+    sync_stands room = settled_stands size keeps reads may_hold faults old new [] [] under goes (sync_means old.master.pages old.master.replica (reads_of reads old.disk) goes.rest.keeping) refl refl (apart_none []) went done why did room
 
     pub sync_risen : IsErrOf done DiskFault → HasRisen (faults old.disk.disk) (faults disk.disk)
-    sync_risen = settled_risen size keeps reads may_hold faults old new [] [] under goes (sync_means old.master.pages old.master.replica (reads_of reads old.disk) goes.rest.keeping) refl refl went done why did
+    sync_risen = settled_risen size keeps reads may_hold faults old new [] [] under goes (sync_means old.master.pages old.master.replica (reads_of reads old.disk) goes.rest.keeping) refl refl (apart_none []) went done why did

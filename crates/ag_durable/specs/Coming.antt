@@ -1,9 +1,12 @@
 -- How far an event has come once one more batch was given to its disk.
-use Rattle.std.specs.Prelude.{◌≡◌, ℕ, ◌+◌, ◌++◌, List, length, take, if◌then◌else◌}
+use Rattle.std.specs.Prelude.{◌≡◌, ℕ, ◌+◌, ◌++◌, List, length, take, false, if◌then◌else◌}
 use Rattle.ag_model.specs.Cells.{keeps_all}
+use Rattle.ag_model.specs.Rows.{contains}
 use Rattle.ag_outside.specs.declared.order.Why.{Why}
 use Rattle.ag_outside.specs.declared.order.Why.TheVariants.{Nothing, Stopped as StoppedSo, Device, Inner}
 use Rattle.ag_outside.specs.Disks.{Image}
+use Rattle.ag_outside.specs.Shown.{reads_of}
+use Rattle.ag_pagestore.specs.Places.{IsPage, image_of}
 use Rattle.ag_rules.specs.Plan.{Batch}
 use Rattle.ag_rules.specs.Cut.{steps_of, steps_kept}
 use Rattle.ag_writes.specs.declared.order.Order.{Order}
@@ -58,8 +61,9 @@ WasOrdered (StoppedSo write kept) = Unit {0}
 WasOrdered Device = Unit {0}
 WasOrdered Inner = ⊥
 
--- the batch was performed, for the same replica
+-- the batch was performed, for the same replica; each page that it doesn't name has the image that it had
 pub record Performs {D : Type 0} (reads : D → Image) (old : DurableView D) (b : Batch) (new : DurableView D) : Type 0 where
   pub reached : reached_of reads new ≡ after_batch (reached_of reads old) b
   pub pages : new.master.pages ≡ old.master.pages
   pub replica : new.master.replica ≡ old.master.replica
+  pub others : (page : ℕ) → IsPage page → contains page (pages_named b) ≡ false → image_of (reads_of reads new.disk) page ≡ image_of (reads_of reads old.disk) page

@@ -3,3 +3,5 @@ pub mod Standing
 pub mod Coming
 pub mod Following
 pub mod Opening
+pub mod Imaging
+pub mod Fetched

@@ -4,6 +4,7 @@
 mod appending;
 mod durable;
 mod fault;
+mod fetching;
 mod formatting;
 mod noting;
 mod opening;

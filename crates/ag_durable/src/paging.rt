@@ -5,6 +5,7 @@ ghost use Rattle.ag_outside.specs.Counts.{HasRisen};
 ghost use Rattle.ag_pagestore.specs.Batches.{IsBatch, IsWhole};
 ghost use Rattle.ag_rules.specs.Plan.{Page_write};
 ghost use Rattle.ag_durable.specs.Coming.{pages_passed, pages_broken, WasOrdered, Performs};
+ghost use Rattle.ag_durable.specs.Imaging.{WritesImages};
 
 use crate::durable::Durable;
 use crate::fault::DurableFault;
@@ -170,6 +171,7 @@ impl<D: Disk> Durable<D> {
         requires batch { IsBatch pages.now }
         requires within { AllByRecursion (λ w. w.page < 16 + self.old.master.pages) pages.now }
         ensures performs { OnOk result (Performs D.reads self.old (map (λ w. Page_write w.page) pages.now) self.new) }
+        ensures images { OnOk result (WritesImages D.reads self.old pages.now self.new) }
         ensures appends { self.new.appends ≡ self.old.appends }
         ensures fault { IsErrOf result DurableFault.DiskFault → HasRisen (D.faults self.old.disk.disk) (D.faults self.new.disk.disk) }
     {

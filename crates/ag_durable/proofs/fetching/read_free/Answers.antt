@@ -1,0 +1,33 @@
+use Rattle.std.proofs.Common.{Err, ap, ◌∙◌}
+use Rattle.ag_durable.proofs.Fetches.{still_synced, free_risen}
+use Rattle.ag_durable.proofs.fetching.read_free.Goals as goal
+
+pub returns-in-Ok-clause-unsynced : goal.returns-in-Ok-clause-unsynced
+returns-in-Ok-clause-unsynced g c =
+    let d = g.D.Disk in
+    still_synced d.size d.keeps d.reads d.may_hold d.faults c.args.disk.now c.arm.new.self c.read.new.disk c.arm.ensures c.requires.synced c.read.ensures.calls
+
+pub returns-in-Err-Torn-clause-unsynced : goal.returns-in-Err-Torn-clause-unsynced
+returns-in-Err-Torn-clause-unsynced g c =
+    let d = g.D.Disk in
+    still_synced d.size d.keeps d.reads d.may_hold d.faults c.args.disk.now c.arm.new.self c.read.new.disk c.arm.ensures c.requires.synced c.read.ensures.calls
+
+pub returns-in-Err-Unreadable-clause-unsynced : goal.returns-in-Err-Unreadable-clause-unsynced
+returns-in-Err-Unreadable-clause-unsynced g c =
+    let d = g.D.Disk in
+    still_synced d.size d.keeps d.reads d.may_hold d.faults c.args.disk.now c.arm.new.self c.read.new.disk c.arm.ensures c.requires.synced c.read.ensures.calls
+
+pub returns-in-Err-DiskFault-clause-unsynced : goal.returns-in-Err-DiskFault-clause-unsynced
+returns-in-Err-DiskFault-clause-unsynced g c =
+    let d = g.D.Disk in
+    still_synced d.size d.keeps d.reads d.may_hold d.faults c.args.disk.now c.arm.new.self c.read.new.disk c.arm.ensures c.requires.synced c.read.ensures.calls
+
+pub returns-in-Err-NoMemory-clause-unsynced : goal.returns-in-Err-NoMemory-clause-unsynced
+returns-in-Err-NoMemory-clause-unsynced g c =
+    let d = g.D.Disk in
+    still_synced d.size d.keeps d.reads d.may_hold d.faults c.args.disk.now c.arm.new.self c.read.new.disk c.arm.ensures c.requires.synced c.read.ensures.calls
+
+pub returns-in-Err-DiskFault-clause-fault : goal.returns-in-Err-DiskFault-clause-fault
+returns-in-Err-DiskFault-clause-fault g c = λ e.
+    let d = g.D.Disk in
+    free_risen d.size d.keeps d.reads d.may_hold d.faults c.args.disk.now c.arm.new.self c.read.new.disk c.arm.ensures c.requires.synced (c.read.ensures.broken (c.in-Err-DiskFault.is ∙ ap (λ e. Err e) c.in-Err-DiskFault.field-0-is))
