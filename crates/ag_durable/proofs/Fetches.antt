@@ -1,5 +1,5 @@
 -- What reading an image in the middle of an event leaves.
-use Rattle.std.proofs.Common.{◌≡◌, ℕ, ◌+◌, ◌-◌, ◌<◌, ◌≤◌, ◌^◌, [], Bool, IsTrue, refl, sym, ap, ◌∙◌, subst, arith}
+use Rattle.std.proofs.Common.{◌≡◌, ℕ, ◌+◌, ◌-◌, ◌≤◌, [], Bool, IsTrue, refl, sym, ap, ◌∙◌, subst, arith}
 use Rattle.ag_outside.specs.declared.order.Arm.{Arm}
 use Rattle.ag_outside.specs.declared.order.Arm.TheVariants.{Free as FreeArm, Stop as StopArm, Fail as FailArm}
 use Rattle.ag_outside.specs.Counts.{HasRisen}

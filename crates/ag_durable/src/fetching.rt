@@ -67,10 +67,7 @@ fn read_free<D: Disk>(
 }
 
 /// Reads the cells of a page outside of any order.
-fn read_cells_free<D: Disk>(
-    disk: &mut Scripted<D>,
-    page: u16,
-) -> Result<[Cell; 16], DurableFault>
+fn read_cells_free<D: Disk>(disk: &mut Scripted<D>, page: u16) -> Result<[Cell; 16], DurableFault>
     requires page { IsPage page }
     requires room { log_end ≤ D.size disk.old.disk }
     requires modelled { IsTrue (D.keeps disk.old.disk) }

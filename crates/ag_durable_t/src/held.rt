@@ -5,12 +5,14 @@ ghost use Rattle.ag_record.specs.Spelling.{ArePayload};
 use crate::blocks::{puts, start};
 use ag_durable::{Came, Durable, DurableFault};
 use ag_logstore::{block_sectors_of, records_size};
+use ag_model::answer::Cell;
 use ag_model::event::Suffix;
 use ag_model::message::Block;
 use ag_model::page_set::PageSet;
 use ag_model::record::RecordList;
 use ag_outside::mem_disk::MemDisk;
 use ag_outside::scripted::Scripted;
+use ag_page::Got;
 use ag_pagestore::PageWrite;
 use ag_writes::{MasterWords, Reach};
 use std::alloc::Global;
@@ -24,6 +26,14 @@ pub enum Held {
 
 /// What a call gave, where it was made.
 pub type Gave = Option<Result<(), DurableFault>>;
+
+/// What is seen of the image of a page.
+#[derive(Debug, Drop)]
+pub struct Seen {
+    pub got: Got,
+    pub first: u8,
+    pub cells: [Cell; 16],
+}
 
 /// Whether more can be written.
 pub fn is_underway(kept: &Durable<MemDisk>) -> bool
@@ -188,6 +198,29 @@ pub fn write_two(kept: &mut Durable<MemDisk>, first: u16, second: u16, byte: u8)
         return None;
     }
     Some(kept.write_pages(&[image(first, byte), image(second, byte)]))
+}
+
+/// What is found of the image of a page, its first byte where it is sound, and its cells.
+pub fn look(kept: &mut Durable<MemDisk>, page: u16) -> Option<Result<Seen, DurableFault>> {
+    if !is_underway(kept) || page < 16 || page >= 2064 {
+        return None;
+    }
+    let mut image = [[0; 512]; 16];
+    let got = match kept.fetch(page, &mut image) {
+        Ok(got) => got,
+        Err(e) => return Some(Err(e)),
+    };
+    if !is_underway(kept) {
+        return None;
+    }
+    match kept.cells(page) {
+        Ok(cells) => Some(Ok(Seen {
+            got,
+            first: image[0][0],
+            cells,
+        })),
+        Err(e) => Some(Err(e)),
+    }
 }
 
 /// How far the event came, unless a fault has left that open.

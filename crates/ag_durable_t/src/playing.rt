@@ -1,6 +1,6 @@
 //! Steps of a replica's data.
 use crate::held::{self, Gave, Held};
-use crate::texts::{log_text, master_text, progress_text, rows_text};
+use crate::texts::{log_text, look_text, master_text, progress_text, rows_text};
 use crate::words::{byte, number, numbers, page, place, word};
 use ag_durable::Durable;
 use ag_model::event::Suffix;
@@ -43,6 +43,13 @@ fn on_data(
             return format!(in alloc; "{}", held::begin(alloc, kept, &suffix));
         }
         "reach" => return format!(in alloc; "{:?}", held::reach(alloc, kept)),
+        "look" => {
+            return match held::look(kept, page(numbers, 0)) {
+                None => format!(in alloc; "refused"),
+                Some(Ok(look)) => look_text(alloc, &look),
+                Some(Err(e)) => format!(in alloc; "{e:?}"),
+            };
+        }
         "progress" => return progress_text(alloc, kept),
         "log" => return log_text(alloc, kept),
         "master" => return master_text(alloc, kept),

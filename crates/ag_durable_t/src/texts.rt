@@ -1,7 +1,10 @@
 //! A replica's data as text.
+use crate::held::Seen;
 use ag_durable::{Came, Durable};
+use ag_model::answer::Cell;
 use ag_model::record::Record;
 use ag_outside::mem_disk::MemDisk;
+use ag_page::Got;
 use std::alloc::{AllocError, Global};
 
 /// Adds an item to a list of them.
@@ -70,6 +73,23 @@ pub fn master_text(alloc: Global, kept: &Durable<MemDisk>) -> Result<String, All
         m.replica,
         kept.can_append()
     )
+}
+
+/// What is seen of an image: sound with its first byte, torn or lost, and the marks of its sectors.
+pub fn look_text(alloc: Global, look: &Seen) -> Result<String, AllocError> {
+    let mut text = match look.got {
+        Got::Sound => format!(in alloc; "sound {}", look.first)?,
+        Got::Torn => format!(in alloc; "torn")?,
+        Got::Lost => format!(in alloc; "lost")?,
+    };
+    for cell in &look.cells {
+        let one = match cell {
+            Cell::Mark(mark) => format!(in alloc; " {mark}")?,
+            Cell::Lost => format!(in alloc; " ?")?,
+        };
+        text.push_str(&one)?;
+    }
+    Ok(text)
 }
 
 /// The suspect rows, each as `page:kind:count:repaired`, or `-`.
