@@ -1,5 +1,5 @@
 -- The entry whose frame holds a page, by its key.
-use Rattle.std.proofs.Common.{◌≡◌, ℕ, Bool, true, false, List, [], ◌∷◌, Option, Some, refl, sym, ap, subst, ◌∙◌, ◌++◌, ◌<◌, length, map, ◌==◌, rules, arith, None, slice_get, take, ◌-◌, ◌+◌, ◌≤◌, nat_eq}
+use Rattle.std.proofs.Common.{◌≡◌, ℕ, Bool, true, false, List, [], ◌∷◌, Option, Some, refl, sym, ap, subst, ◌∙◌, ◌++◌, ◌<◌, length, map, ◌==◌, rules, arith, None, is_some, slice_get, take, ◌-◌, ◌+◌, ◌≤◌, nat_eq}
 use Rattle.std.specs.List.{AllByRecursion, IsDistinct}
 use Rattle.std.specs.Map.{keys_of, lookup, lookup_entry, remove_entry, set_value}
 use Rattle.std.specs.Option.{option_map}
@@ -117,3 +117,16 @@ module _ {T : Type 0} where
   pub below_more : (n : ℕ) (es : List (ℕ × Frame T)) → AllBelow n es → AllByRecursion (λ e. e.0 < n + 1) es
   below_more n [] a = tt
   below_more n (e ∷ es) a = (let lt = a.0 in omega arith, below_more n es a.1)
+
+  pub free_shown : (es : List (ℕ × Frame T)) → AllByRecursion (λ e. shown e.1 ≡ None) es → AllByRecursion (λ frame. frame ≡ None) (all_shown es)
+  free_shown [] a = tt
+  free_shown (e ∷ es) a = (a.0, free_shown es a.1)
+
+  -- a page is held where its frame is found
+  pub holder_shows : (page : ℕ) (es : List (ℕ × Frame T)) → is_some (holder page es) ≡ is_some (page_of page (all_shown es))
+  holder_shows page [] = refl
+  holder_shows page ((n, Free) ∷ es) = holder_shows page es
+  holder_shows page ((n, Held p v) ∷ es) = (elim (p == page) as (λ b. (p == page) ≡ b → is_some (holder page ((n, Held p v) ∷ es)) ≡ is_some (page_of page (all_shown ((n, Held p v) ∷ es)))) [
+    | true ↦ λ t. rw t refl
+    | false ↦ λ t. rw t (holder_shows page es)
+  ]) refl

@@ -95,6 +95,13 @@ impl<T> Frames<T> {
         Ok(Frames { cache })
     }
 
+    /// Whether a frame holds the page. The order stays.
+    pub fn holds(&self, page: u16) -> bool
+        ensures { result ≡ is_some (page_of page self.now) }
+    {
+        frame_of(&self.cache, page).is_some()
+    }
+
     /// The page, if a frame holds it. The frame is then the one used last.
     pub fn look(&mut self, page: u16) -> Option<&mut T>
         ensures* writes_back { sem 𝓛 (LendsPage T.row self.entry page result) }
