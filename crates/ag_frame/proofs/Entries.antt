@@ -1,9 +1,8 @@
 -- The entry whose frame holds a page, by its key.
-use Rattle.std.proofs.Common.{◌≡◌, ℕ, Bool, true, false, List, [], ◌∷◌, Option, Some, refl, sym, ap, subst, ◌∙◌, ◌++◌, ◌<◌, length, map, ◌==◌, rules, arith, None, is_some, slice_get, take, ◌-◌, ◌+◌, ◌≤◌, nat_eq}
+use Rattle.std.proofs.Common.{◌≡◌, ℕ, Bool, true, false, List, [], ◌∷◌, Some, refl, sym, ap, subst, ◌∙◌, ◌++◌, ◌<◌, ◌==◌, rules, arith, None, is_some, ◌+◌, nat_eq}
 use Rattle.std.specs.List.{AllByRecursion, IsDistinct}
 use Rattle.std.specs.Map.{keys_of, lookup, lookup_entry, remove_entry, set_value}
 use Rattle.std.specs.Option.{option_map}
-use Rattle.std.proofs.lemmas.List.{map-append}
 use Rattle.lru.specs.LruCache.{promoted, demoted, last_entry}
 use Rattle.lru.proofs.Pairs.{last_of_push}
 use Rattle.std.specs.Cmp.{nat_eq_equiv}
@@ -34,8 +33,8 @@ module _ {T : Type 0} where
   unfolding IsDistinct
   is_at page k [] d h = cc
   is_at page k ((n, Free) ∷ es) d h =
-    let r = is_at page k es d.1 h in let ne = apart n page k es d.0 h in
-    (r.0, rw ne r.1, rw ne r.2, r.3, rw ne (ap (λ fs. None ∷ fs) r.4))
+      let r = is_at page k es d.1 h in let ne = apart n page k es d.0 h in
+      (r.0, rw ne r.1, rw ne r.2, r.3, rw ne (ap (λ fs. None ∷ fs) r.4))
   is_at page k ((n, Held p v) ∷ es) d h = (elim (p == page) as (λ b. (p == page) ≡ b → IsAt page ((n, Held p v) ∷ es) k) [
     | true ↦ λ t. let h' = rw t at h in let same : n ≡ k = cc in let number : p ≡ page = same_number p page t in
         subst (λ x. IsAt x ((n, Held p v) ∷ es) k) number (subst (λ x. IsAt p ((n, Held p v) ∷ es) x) same (first n p v es))
@@ -65,8 +64,8 @@ module _ {T : Type 0} where
   unfolding IsDistinct
   at_end [] k f d = rw (nat_eq_equiv.refl k) (refl, refl, refl)
   at_end (x ∷ xs) k f d =
-    let r = at_end xs k f d.1 in let ne : nat_eq k x.0 ≡ false = nat_eq_equiv.symm k x.0 ∙ before_end x.0 xs k f d.0 in
-    rw ne (r.0, r.1, ap (λ es. x ∷ es) r.2)
+      let r = at_end xs k f d.1 in let ne : nat_eq k x.0 ≡ false = nat_eq_equiv.symm k x.0 ∙ before_end x.0 xs k f d.0 in
+      rw ne (r.0, r.1, ap (λ es. x ∷ es) r.2)
 
   -- the key is that of the last frame
   abbrev pub IsLast : List (ℕ × Frame T) → ℕ → Type 0
@@ -78,14 +77,14 @@ module _ {T : Type 0} where
 
   at_last : (xs : List (ℕ × Frame T)) (e : ℕ × Frame T) (k : ℕ) → IsDistinct nat_eq (keys_of (xs ++ e ∷ [])) → Some k ≡ option_map (λ x. x.0) (last_entry (xs ++ e ∷ [])) → IsLast (xs ++ e ∷ []) k
   at_last xs e k d h =
-    let h' = rw (last_of_push xs e).0 at h in let same : e.0 ≡ k = cc in
-    subst (IsLast (xs ++ e ∷ [])) same (let r = at_end xs e.0 e.1 d in (xs, e.1, refl, r.0, r.1, r.2))
+      let h' = rw (last_of_push xs e).0 at h in let same : e.0 ≡ k = cc in
+      subst (IsLast (xs ++ e ∷ [])) same (let r = at_end xs e.0 e.1 d in (xs, e.1, refl, r.0, r.1, r.2))
 
   pub last_is : (es : List (ℕ × Frame T)) (k : ℕ) → IsDistinct nat_eq (keys_of es) → Some k ≡ option_map (λ x. x.0) (last_entry es) → IsLast es k
   last_is [] k d h = cc
   last_is (x ∷ es) k d h =
-    let r = snoc x es in
-    subst (λ ys. IsDistinct nat_eq (keys_of ys) → Some k ≡ option_map (λ x. x.0) (last_entry ys) → IsLast ys k) (sym r.2) (at_last r.0 r.1 k) d h
+      let r = snoc x es in
+      subst (λ ys. IsDistinct nat_eq (keys_of ys) → Some k ≡ option_map (λ x. x.0) (last_entry ys) → IsLast ys k) (sym r.2) (at_last r.0 r.1 k) d h
 
   module _ (test : ℕ → Bool) (k : ℕ) (f w : Frame T) where
     -- a value that was set is the one found

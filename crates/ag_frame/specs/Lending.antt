@@ -1,5 +1,5 @@
 -- What the frames end as, once a borrow of a page has ended.
-use Rattle.std.specs.Prelude.{◌≡◌, ℕ, List, ◌∷◌, Option, Some}
+use Rattle.std.specs.Prelude.{ℕ, List, ◌∷◌, Option, Some}
 use Rattle.std.specs.Borrow.{Fml, RattleType, MutBor, LendsIf}
 use Rattle.ag_frame.specs.Frames.{without}
 use Rattle.ag_frame.specs.contracts.frames.Frames.{the_row}

@@ -1,4 +1,4 @@
-use Rattle.std.proofs.Common.{◌≡◌, ◌∷◌, ap, arith}
+use Rattle.std.proofs.Common.{◌∷◌, ap, arith}
 use Rattle.std.proofs.lemmas.List.{take_all}
 use Rattle.ag_frame.specs.declared.frame.Frame.TheVariants.{Free}
 use Rattle.ag_frame.proofs.Entries.{none_at}

@@ -1,8 +1,6 @@
-use Rattle.std.proofs.Common.{◌≡◌, ◌<◌, ◌++◌, ◌∷◌, [], length, Some, None, refl, sym, ap, ◌∙◌, subst, inl, nat_eq, rules, arith, IsSome, option_map, take, drop, cond, is_some}
-use Rattle.std.specs.Map.{lookup, lookup_entry, remove_entry}
+use Rattle.std.proofs.Common.{◌≡◌, ◌<◌, length, refl, sym, ap, ◌∙◌, subst, arith}
 use Rattle.std.proofs.lemmas.List.{map-append}
-use Rattle.ag_frame.specs.declared.frame.Frame.TheVariants.{Free, Held}
-use Rattle.ag_frame.specs.Frames.{shown, all_shown, with_page, without}
+use Rattle.ag_frame.specs.Frames.{shown, all_shown}
 use Rattle.ag_frame.proofs.Entries.{last_is, lent}
 use Rattle.ag_frame.proofs.frames.Frames.admit.Goals as goal
 

@@ -1,8 +1,8 @@
-use Rattle.std.proofs.Common.{◌≡◌, ◌<◌, ◌++◌, ◌∷◌, [], length, Some, None, refl, sym, ap, ◌∙◌, subst, inl, nat_eq, rules, arith, IsSome, option_map, take, drop, cond, is_some}
-use Rattle.std.specs.Map.{lookup, lookup_entry, remove_entry}
+use Rattle.std.proofs.Common.{◌≡◌, ◌++◌, ◌∷◌, [], Some, None, sym, ap, ◌∙◌, nat_eq, arith, option_map}
+use Rattle.std.specs.Map.{remove_entry}
 use Rattle.std.proofs.lemmas.List.{map-append, length-append}
-use Rattle.ag_frame.specs.declared.frame.Frame.TheVariants.{Free, Held}
-use Rattle.ag_frame.specs.Frames.{shown, all_shown, with_page, without}
+use Rattle.ag_frame.specs.declared.frame.Frame.TheVariants.{Held}
+use Rattle.ag_frame.specs.Frames.{shown}
 use Rattle.ag_frame.proofs.Entries.{is_at, not_there, set_last}
 use Rattle.ag_frame.proofs.frames.Frames.discard.Goals as goal
 
@@ -31,4 +31,4 @@ returns-clause-frames g c =
     let value = c.in_ok-peek_mut.ensures.value in let found = at.2 in let same : c.in_ok-peek_mut.field-0.now ≡ Held c.args.page at.0 = cc in
     let taken : c.page.result ≡ Some at.0 = c.page.ensures ∙ ap (λ f. option_map (λ h. h.1) (shown f)) (c.replace-taken.ensures.value ∙ same) in
     rw (← c.self.view_is, taken, c.demote.ensures.entries, set_last (nat_eq k) k _ c.replace-taken.new.dest es at.1, c.replace-taken.ensures.after)
-      (map-append (λ e. shown e.1) (remove_entry (nat_eq k) es) _ ∙ ap (λ fs. fs ++ None ∷ []) at.4)
+    (map-append (λ e. shown e.1) (remove_entry (nat_eq k) es) _ ∙ ap (λ fs. fs ++ None ∷ []) at.4)

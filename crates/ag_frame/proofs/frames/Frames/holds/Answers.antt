@@ -1,4 +1,3 @@
-use Rattle.std.proofs.Common.{ap, ◌∙◌, is_some}
 use Rattle.ag_frame.proofs.Entries.{holder_shows}
 use Rattle.ag_frame.proofs.frames.Frames.holds.Goals as goal
 

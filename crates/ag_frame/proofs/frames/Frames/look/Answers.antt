@@ -1,8 +1,7 @@
-use Rattle.std.proofs.Common.{◌≡◌, ◌<◌, ◌++◌, ◌∷◌, [], length, Some, None, refl, sym, ap, ◌∙◌, subst, inl, nat_eq, rules, arith, IsSome, option_map, take, drop, cond, is_some}
-use Rattle.std.specs.Map.{lookup, lookup_entry, remove_entry}
-use Rattle.std.proofs.lemmas.List.{map-append}
-use Rattle.ag_frame.specs.declared.frame.Frame.TheVariants.{Free, Held}
-use Rattle.ag_frame.specs.Frames.{shown, all_shown, with_page, without}
+use Rattle.std.proofs.Common.{◌≡◌, ◌<◌, ◌∷◌, length, Some, refl, sym, ap, ◌∙◌, subst, inl, nat_eq, arith, IsSome, option_map}
+use Rattle.std.specs.Map.{remove_entry}
+use Rattle.ag_frame.specs.declared.frame.Frame.TheVariants.{Held}
+use Rattle.ag_frame.specs.Frames.{shown, all_shown, with_page}
 use Rattle.ag_frame.proofs.Entries.{is_at, not_there, lent}
 use Rattle.ag_frame.proofs.frames.Frames.look.Goals as goal
 
