@@ -1,0 +1,107 @@
+//! The frames of all data pages, and the LSNs of the stripes.
+ghost use Rattle.std.specs.Prelude.{◌≡◌, ◌+◌, ◌<◌, ◌≤◌, Some, None, true, false, replicate, IfOk};
+ghost use Rattle.ag_rules.specs.Replica.{all_at};
+ghost use Rattle.ag_pool.specs.Frames.{empty_frame};
+ghost use Rattle.ag_pool.specs.View.{PoolView, frame, with_frame, stripe_at};
+
+use crate::frame::{Frame, Held, StripeLsns, empty_frame};
+use ag_model::value::{NoMemory, PageValue};
+use std::alloc::Global;
+use std::marker::Model;
+
+/// A frame for each data page, rising from page 16, and the LSNs of the 16 stripes.
+#[derive(Debug, Drop)]
+pub struct Pool {
+    pages: u16,
+    frames: Vec<Frame>,
+    stripes: Vec<StripeLsns>,
+}
+
+impl Model for Pool {
+    ghost use Rattle.std.specs.Prelude.{map};
+    ghost use Rattle.ag_pool.specs.Frames.{stripe_of};
+    ghost use Rattle.ag_pool.specs.View.{PoolView, IsPool};
+
+    ghost Value = { PoolView };
+
+    ghost view = { λ p. record { pages = p.pages; frames = p.frames.items; stripes = map stripe_of p.stripes.items } };
+
+    ghost invariant = { λ p. IsPool (record { pages = p.pages; frames = p.frames.items; stripes = map stripe_of p.stripes.items }) };
+}
+
+/// The place of a data page among the frames.
+fn place_of(page: u16) -> usize
+    requires { 16 ≤ page }
+    ensures { result ≡ page - 16 }
+{
+    usize::from(page - 16)
+}
+
+/// So many frames with nothing in them.
+fn empty_frames(alloc: Global, pages: u16) -> Result<Vec<Frame>, NoMemory>
+    ensures { IfOk result (λ frames. frames.items ≡ replicate pages empty_frame) }
+{
+    let mut frames = Vec::new(alloc);
+    for _ in 0..pages {
+        frames.push(empty_frame())?;
+    }
+    Ok(frames)
+}
+
+/// The 16 stripes, all at one LSN.
+fn stripes_at(alloc: Global, lsn: u64) -> Result<Vec<StripeLsns>, NoMemory>
+    ensures { IfOk result (λ stripes. stripes.items ≡ replicate 16 (record { applied = lsn; published = lsn })) }
+{
+    let mut stripes = Vec::new(alloc);
+    for _ in 0..16 {
+        stripes.push(StripeLsns {
+            applied: lsn,
+            published: lsn,
+        })?;
+    }
+    Ok(stripes)
+}
+
+impl Pool {
+    /// A pool of so many data pages, with nothing read in, and its stripes at an LSN.
+    pub fn new(alloc: Global, pages: u16, lsn: u64) -> Result<Pool, NoMemory>
+        requires low { 16 ≤ pages }
+        requires high { pages ≤ 2048 }
+        ensures { IfOk result (λ p. p ≡ record { pages = pages; frames = replicate pages empty_frame; stripes = all_at lsn }) }
+    {
+        let frames = empty_frames(alloc, pages)?;
+        let stripes = stripes_at(alloc, lsn)?;
+        Ok(Pool {
+            pages,
+            frames,
+            stripes,
+        })
+    }
+
+    /// How many data pages there are.
+    pub fn pages(&self) -> u16
+        ensures answer { result ≡ self.now.pages }
+        ensures low { 16 ≤ result }
+        ensures high { result ≤ 2048 }
+    {
+        self.pages
+    }
+
+    /// The frame of a page.
+    pub fn frame(&self, page: u16) -> &Frame
+        requires low { 16 ≤ page }
+        requires high { page < 16 + self.now.pages }
+        ensures { result.now ≡ frame self.now page }
+    {
+        &self.frames[place_of(page)]
+    }
+
+    /// Keeps the value of a page.
+    pub fn keep(&mut self, page: u16, value: PageValue)
+        requires low { 16 ≤ page }
+        requires high { page < 16 + self.old.pages }
+        ensures { self.new ≡ with_frame self.old page (record (frame self.old page) { value = Some value }) }
+    {
+        self.frames[place_of(page)].value = Some(value);
+    }
+}
