@@ -1,5 +1,5 @@
 //! The frames of all data pages, and the LSNs of the stripes.
-ghost use Rattle.std.specs.Prelude.{◌≡◌, ◌+◌, ◌<◌, ◌≤◌, Some, None, true, false, replicate, IfOk};
+ghost use Rattle.std.specs.Prelude.{◌≡◌, ◌+◌, ◌-◌, ◌<◌, ◌≤◌, Some, None, true, false, is_some, replicate, IfOk};
 ghost use Rattle.ag_rules.specs.Replica.{all_at};
 ghost use Rattle.ag_pool.specs.Frames.{empty_frame};
 ghost use Rattle.ag_pool.specs.View.{PoolView, frame, with_frame, stripe_at};
@@ -32,7 +32,7 @@ impl Model for Pool {
 /// The place of a data page among the frames.
 fn place_of(page: u16) -> usize
     requires { 16 ≤ page }
-    ensures { result ≡ page - 16 }
+    ensures place { result ≡ page - 16 }
 {
     usize::from(page - 16)
 }
@@ -53,7 +53,7 @@ fn stripes_at(alloc: Global, lsn: u64) -> Result<Vec<StripeLsns>, NoMemory>
     ensures { IfOk result (λ stripes. stripes.items ≡ replicate 16 (record { applied = lsn; published = lsn })) }
 {
     let mut stripes = Vec::new(alloc);
-    for _ in 0..16 {
+    for _ in 0..16u16 {
         stripes.push(StripeLsns {
             applied: lsn,
             published: lsn,
@@ -96,6 +96,44 @@ impl Pool {
         &self.frames[place_of(page)]
     }
 
+    /// Whether the value of a page was read in.
+    pub fn has(&self, page: u16) -> bool
+        requires low { 16 ≤ page }
+        requires high { page < 16 + self.now.pages }
+        ensures { result ≡ is_some (frame self.now page).value }
+    {
+        self.frame(page).value.is_some()
+    }
+
+    /// The value of a page that was read in.
+    pub fn value(&self, page: u16) -> &PageValue
+        requires low { 16 ≤ page }
+        requires high { page < 16 + self.now.pages }
+        requires kept { is_some (frame self.now page).value ≡ true }
+        ensures { (frame self.now page).value ≡ Some result.now }
+    {
+        match &self.frame(page).value {
+            Some(value) => value,
+            None => unreachable!(),
+        }
+    }
+
+    /// The LSN up to which a stripe has redone.
+    pub fn applied(&self, x: u8) -> u64
+        requires { x < 16 }
+        ensures { result ≡ (stripe_at self.now x).applied }
+    {
+        self.stripes[usize::from(x)].applied
+    }
+
+    /// The LSN that a stripe has published.
+    pub fn published(&self, x: u8) -> u64
+        requires { x < 16 }
+        ensures { result ≡ (stripe_at self.now x).published }
+    {
+        self.stripes[usize::from(x)].published
+    }
+
     /// Keeps the value of a page.
     pub fn keep(&mut self, page: u16, value: PageValue)
         requires low { 16 ≤ page }
@@ -103,5 +141,61 @@ impl Pool {
         ensures { self.new ≡ with_frame self.old page (record (frame self.old page) { value = Some value }) }
     {
         self.frames[place_of(page)].value = Some(value);
+    }
+
+    /// Gives the value of a page up: it is not dirty any more.
+    pub fn give_up(&mut self, page: u16)
+        requires low { 16 ≤ page }
+        requires high { page < 16 + self.old.pages }
+        ensures { self.new ≡ with_frame self.old page (record (frame self.old page) { value = None; dirty = false }) }
+    {
+        let frame = &mut self.frames[place_of(page)];
+        frame.value = None;
+        frame.dirty = false;
+    }
+
+    /// Forgets all of a page.
+    pub fn forget(&mut self, page: u16)
+        requires low { 16 ≤ page }
+        requires high { page < 16 + self.old.pages }
+        ensures { self.new ≡ with_frame self.old page empty_frame }
+    {
+        self.frames[place_of(page)] = empty_frame();
+    }
+
+    /// Says that the image of a page was written.
+    pub fn clean(&mut self, page: u16)
+        requires low { 16 ≤ page }
+        requires high { page < 16 + self.old.pages }
+        ensures { self.new ≡ with_frame self.old page (record (frame self.old page) { dirty = false }) }
+    {
+        self.frames[place_of(page)].dirty = false;
+    }
+
+    /// Says that a page waits for a repair.
+    pub fn pend(&mut self, page: u16)
+        requires low { 16 ≤ page }
+        requires high { page < 16 + self.old.pages }
+        ensures { self.new ≡ with_frame self.old page (record (frame self.old page) { pending = true }) }
+    {
+        self.frames[place_of(page)].pending = true;
+    }
+
+    /// Holds a page that was given ahead of its stripe.
+    pub fn hold(&mut self, page: u16, held: Held)
+        requires low { 16 ≤ page }
+        requires high { page < 16 + self.old.pages }
+        ensures { self.new ≡ with_frame self.old page (record (frame self.old page) { held = Some held }) }
+    {
+        self.frames[place_of(page)].held = Some(held);
+    }
+
+    /// Says that a page came.
+    pub fn come(&mut self, page: u16)
+        requires low { 16 ≤ page }
+        requires high { page < 16 + self.old.pages }
+        ensures { self.new ≡ with_frame self.old page (record (frame self.old page) { came = true }) }
+    {
+        self.frames[place_of(page)].came = true;
     }
 }
