@@ -1,5 +1,5 @@
 -- A pool as its contracts see it.
-use Rattle.std.specs.Prelude.{◌≡◌, ℕ, ◌+◌, ◌-◌, ◌<◌, ◌≤◌, List, length, get_or, set, map, Bool, ◌&&◌, nat_le, nat_lt}
+use Rattle.std.specs.Prelude.{◌≡◌, ℕ, ◌+◌, ◌-◌, ◌≤◌, List, length, get_or, set, map, Bool, ◌&&◌, nat_le, nat_lt}
 use Rattle.ag_rules.specs.Replica.{Stripe, no_stripe}
 use Rattle.ag_pool.specs.declared.frame.Frame.{Frame}
 use Rattle.ag_pool.specs.Frames.{empty_frame}

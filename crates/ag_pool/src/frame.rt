@@ -1,5 +1,5 @@
 //! What memory has of one page, and of one stripe.
-ghost use Rattle.std.specs.Prelude.{◌≡◌};
+ghost use Rattle.std.specs.Prelude.{◌≡◌, min};
 ghost use Rattle.ag_pool.specs.Frames.{empty_frame};
 
 use ag_model::value::PageValue;
@@ -45,4 +45,12 @@ pub(crate) fn empty_frame() -> Frame
         held: None,
         came: false,
     }
+}
+
+/// Lowers both LSNs of a stripe to at most an LSN.
+pub(crate) fn lower_stripe(stripe: &mut StripeLsns, lsn: u64)
+    ensures { stripe.new ≡ record { applied = min stripe.old.applied lsn; published = min stripe.old.published lsn } }
+{
+    stripe.applied = stripe.applied.min(lsn);
+    stripe.published = stripe.published.min(lsn);
 }

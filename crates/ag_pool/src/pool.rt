@@ -1,10 +1,11 @@
 //! The frames of all data pages, and the LSNs of the stripes.
-ghost use Rattle.std.specs.Prelude.{◌≡◌, ◌+◌, ◌-◌, ◌<◌, ◌≤◌, Some, None, true, false, is_some, replicate, IfOk};
-ghost use Rattle.ag_rules.specs.Replica.{all_at};
-ghost use Rattle.ag_pool.specs.Frames.{empty_frame};
-ghost use Rattle.ag_pool.specs.View.{PoolView, frame, with_frame, stripe_at};
+ghost use Rattle.std.specs.Prelude.{◌≡◌, ◌+◌, ◌-◌, ◌<◌, ◌≤◌, Some, None, true, false, is_some, replicate, map, set, length, IfOk};
+ghost use Rattle.ag_rules.specs.Replica.{least, all_at};
+ghost use Rattle.ag_rules.specs.ResumeMessage.{lowered};
+ghost use Rattle.ag_pool.specs.Frames.{empty_frame, released, not_come, forgotten, lowered_lsns, at_lsn};
+ghost use Rattle.ag_pool.specs.View.{PoolView, frame, with_frame, each_frame, stripe_at, with_stripes};
 
-use crate::frame::{Frame, Held, StripeLsns, empty_frame};
+use crate::frame::{Frame, Held, StripeLsns, empty_frame, lower_stripe};
 use ag_model::value::{NoMemory, PageValue};
 use std::alloc::Global;
 use std::marker::Model;
@@ -60,6 +61,78 @@ fn stripes_at(alloc: Global, lsn: u64) -> Result<Vec<StripeLsns>, NoMemory>
         })?;
     }
     Ok(stripes)
+}
+
+/// The least of the stripes' applied LSNs.
+fn least_applied(stripes: &[StripeLsns]) -> u64
+    requires { 0 < length stripes.now }
+    ensures { result ≡ least (map (λ s. s.applied) stripes.now) }
+{
+    let mut least = stripes[0].applied;
+    for stripe in stripes {
+        least = least.min(stripe.applied);
+    }
+    least
+}
+
+/// The least of the stripes' published LSNs.
+fn least_published(stripes: &[StripeLsns]) -> u64
+    requires { 0 < length stripes.now }
+    ensures { result ≡ least (map (λ s. s.published) stripes.now) }
+{
+    let mut least = stripes[0].published;
+    for stripe in stripes {
+        least = least.min(stripe.published);
+    }
+    least
+}
+
+/// Forgets all of each page.
+fn forget_frames(frames: &mut Vec<Frame>)
+    ensures { frames.new.items ≡ map forgotten frames.old.items }
+{
+    for frame in frames.iter_mut() {
+        *frame = empty_frame();
+    }
+}
+
+/// Lets each held page go.
+fn release_frames(frames: &mut Vec<Frame>)
+    ensures { frames.new.items ≡ map released frames.old.items }
+{
+    for frame in frames.iter_mut() {
+        frame.held = None;
+    }
+}
+
+/// Says of each page that it didn't come.
+fn none_came_of(frames: &mut Vec<Frame>)
+    ensures { frames.new.items ≡ map not_come frames.old.items }
+{
+    for frame in frames.iter_mut() {
+        frame.came = false;
+    }
+}
+
+/// Lowers both LSNs of each stripe.
+fn lower_stripes(stripes: &mut Vec<StripeLsns>, lsn: u64)
+    ensures { stripes.new.items ≡ map (lowered_lsns lsn) stripes.old.items }
+{
+    for stripe in stripes.iter_mut() {
+        lower_stripe(stripe, lsn);
+    }
+}
+
+/// Puts both LSNs of each stripe at one LSN.
+fn stand_stripes(stripes: &mut Vec<StripeLsns>, lsn: u64)
+    ensures { stripes.new.items ≡ map (at_lsn lsn) stripes.old.items }
+{
+    for stripe in stripes.iter_mut() {
+        *stripe = StripeLsns {
+            applied: lsn,
+            published: lsn,
+        };
+    }
 }
 
 impl Pool {
@@ -197,5 +270,63 @@ impl Pool {
         ensures { self.new ≡ with_frame self.old page (record (frame self.old page) { came = true }) }
     {
         self.frames[place_of(page)].came = true;
+    }
+
+    /// The least LSN up to which a stripe has redone.
+    pub fn least_applied(&self) -> u64
+        ensures { result ≡ least (map (λ s. s.applied) self.now.stripes) }
+    {
+        least_applied(self.stripes.as_slice())
+    }
+
+    /// The least LSN that a stripe has published.
+    pub fn front(&self) -> u64
+        ensures { result ≡ least (map (λ s. s.published) self.now.stripes) }
+    {
+        least_published(self.stripes.as_slice())
+    }
+
+    /// Forgets all of each page.
+    pub fn forget_all(&mut self)
+        ensures { self.new ≡ each_frame forgotten self.old }
+    {
+        forget_frames(&mut self.frames);
+    }
+
+    /// Lets each held page go.
+    pub fn release(&mut self)
+        ensures { self.new ≡ each_frame released self.old }
+    {
+        release_frames(&mut self.frames);
+    }
+
+    /// Says of each page that it didn't come.
+    pub fn none_came(&mut self)
+        ensures { self.new ≡ each_frame not_come self.old }
+    {
+        none_came_of(&mut self.frames);
+    }
+
+    /// A stripe publishes the LSN up to which it has redone.
+    pub fn publish(&mut self, x: u8)
+        requires { x < 16 }
+        ensures { self.new ≡ with_stripes self.old (set self.old.stripes x (record (stripe_at self.old x) { published = (stripe_at self.old x).applied })) }
+    {
+        let stripe = &mut self.stripes[usize::from(x)];
+        stripe.published = stripe.applied;
+    }
+
+    /// Puts both LSNs of each stripe at one LSN.
+    pub fn stand_all(&mut self, lsn: u64)
+        ensures { self.new ≡ with_stripes self.old (all_at lsn) }
+    {
+        stand_stripes(&mut self.stripes, lsn);
+    }
+
+    /// Lowers both LSNs of each stripe to at most an LSN.
+    pub fn lower(&mut self, lsn: u64)
+        ensures { self.new ≡ with_stripes self.old (map (lowered lsn) self.old.stripes) }
+    {
+        lower_stripes(&mut self.stripes, lsn);
     }
 }
