@@ -3,6 +3,7 @@
 
 mod frame;
 mod pool;
+mod redoing;
 
 pub use frame::{Frame, Held, StripeLsns};
 pub use pool::Pool;
