@@ -1,0 +1,10 @@
+use Rattle.std.proofs.Common.{◌<◌, length, arith}
+use Rattle.ag_pool.specs.Frames.{not_come}
+use Rattle.ag_pool.proofs.Pools.{each-more}
+use Rattle.ag_pool.proofs.pool.none_came_of.Goals as goal
+
+pub loop-frame-preserved : goal.loop-frame-preserved
+loop-frame-preserved c =
+    let i = c.loop-frame.frame-index in
+    let lt : i < length c.args.frames.now.items = omega (arith, c.loop-frame-test.true, c.deref_mut-frame-items.ensures.len) in
+    each-more not_come c.args.frames.now.items c.loop-frame.frame-items i c.frame-item.result lt c.loop-frame.invariant

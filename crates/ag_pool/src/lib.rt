@@ -1,0 +1,9 @@
+//! What memory has of a replica's pages: the values that were read in, how each page stands, and how far each stripe has redone.
+#![tactic(auto)]
+
+mod frame;
+mod pool;
+mod redoing;
+
+pub use frame::{Frame, Held, StripeLsns};
+pub use pool::Pool;
