@@ -1,0 +1,6 @@
+//! Events as lines of a script.
+#![tactic(auto)]
+
+pub mod event;
+mod shapes;
+mod text;
