@@ -11,7 +11,7 @@ use ag_model::value::{NoMemory, Value};
 
 /// Adds a line of its name alone at the end.
 pub(crate) fn put_plain(name: &[u8], suffix: &Suffix, out: &mut Vec<u8>) -> Result<(), NoMemory>
-    ensures { OnOk result (out.new.items ≡ out.old.items ++ name.now ++ tail_text (suffix_words suffix.now)) }
+    ensures { OnOk result (out.new.items ≡ out.old.items ++ (name.now ++ (tail_text (suffix_words suffix.now)))) }
 {
     put_text(name, out)?;
     put_suffix(suffix, out)
@@ -24,7 +24,7 @@ pub(crate) fn put_node(
     suffix: &Suffix,
     out: &mut Vec<u8>,
 ) -> Result<(), NoMemory>
-    ensures { OnOk result (out.new.items ≡ out.old.items ++ name.now ++ 32 ∷ who_byte node.now ∷ tail_text (suffix_words suffix.now)) }
+    ensures { OnOk result (out.new.items ≡ out.old.items ++ (name.now ++ (32 ∷ who_byte node.now ∷ tail_text (suffix_words suffix.now)))) }
 {
     put_text(name, out)?;
     put_who(node, out)?;
@@ -39,7 +39,7 @@ pub(crate) fn put_one(
     suffix: &Suffix,
     out: &mut Vec<u8>,
 ) -> Result<(), NoMemory>
-    ensures { OnOk result (out.new.items ≡ out.old.items ++ name.now ++ 32 ∷ who_byte node.now ∷ 32 ∷ decimal number ++ tail_text (suffix_words suffix.now)) }
+    ensures { OnOk result (out.new.items ≡ out.old.items ++ (name.now ++ (32 ∷ who_byte node.now ∷ 32 ∷ (decimal number ++ tail_text (suffix_words suffix.now))))) }
 {
     put_text(name, out)?;
     put_who(node, out)?;
@@ -56,7 +56,7 @@ pub(crate) fn put_two(
     suffix: &Suffix,
     out: &mut Vec<u8>,
 ) -> Result<(), NoMemory>
-    ensures { OnOk result (out.new.items ≡ out.old.items ++ name.now ++ 32 ∷ who_byte node.now ∷ 32 ∷ decimal first ++ 32 ∷ decimal second ++ tail_text (suffix_words suffix.now)) }
+    ensures { OnOk result (out.new.items ≡ out.old.items ++ (name.now ++ (32 ∷ who_byte node.now ∷ 32 ∷ (decimal first ++ 32 ∷ (decimal second ++ tail_text (suffix_words suffix.now)))))) }
 {
     put_text(name, out)?;
     put_who(node, out)?;
@@ -73,7 +73,7 @@ pub(crate) fn put_nodes(
     suffix: &Suffix,
     out: &mut Vec<u8>,
 ) -> Result<(), NoMemory>
-    ensures { OnOk result (out.new.items ≡ out.old.items ++ name.now ++ 32 ∷ who_byte node.now ∷ 32 ∷ who_byte to.now ∷ tail_text (suffix_words suffix.now)) }
+    ensures { OnOk result (out.new.items ≡ out.old.items ++ (name.now ++ (32 ∷ who_byte node.now ∷ 32 ∷ who_byte to.now ∷ tail_text (suffix_words suffix.now)))) }
 {
     put_text(name, out)?;
     put_who(node, out)?;
@@ -90,7 +90,7 @@ pub(crate) fn put_message(
     suffix: &Suffix,
     out: &mut Vec<u8>,
 ) -> Result<(), NoMemory>
-    ensures { OnOk result (out.new.items ≡ out.old.items ++ name.now ++ 32 ∷ who_byte node.now ∷ 32 ∷ who_byte to.now ∷ 32 ∷ decimal number ++ tail_text (suffix_words suffix.now)) }
+    ensures { OnOk result (out.new.items ≡ out.old.items ++ (name.now ++ (32 ∷ who_byte node.now ∷ 32 ∷ who_byte to.now ∷ 32 ∷ (decimal number ++ tail_text (suffix_words suffix.now))))) }
 {
     put_text(name, out)?;
     put_who(node, out)?;
@@ -109,7 +109,7 @@ pub(crate) fn put_change(
     suffix: &Suffix,
     out: &mut Vec<u8>,
 ) -> Result<(), NoMemory>
-    ensures { OnOk result (out.new.items ≡ out.old.items ++ name.now ++ 32 ∷ who_byte node.now ∷ 32 ∷ decimal txn ++ 32 ∷ decimal key ++ 32 ∷ value_text value.now ++ tail_text (suffix_words suffix.now)) }
+    ensures { OnOk result (out.new.items ≡ out.old.items ++ (name.now ++ (32 ∷ who_byte node.now ∷ 32 ∷ (decimal txn ++ 32 ∷ (decimal key ++ 32 ∷ (value_text value.now ++ tail_text (suffix_words suffix.now))))))) }
 {
     put_text(name, out)?;
     put_who(node, out)?;
@@ -128,7 +128,7 @@ pub(crate) fn put_asked(
     suffix: &Suffix,
     out: &mut Vec<u8>,
 ) -> Result<(), NoMemory>
-    ensures { OnOk result (out.new.items ≡ out.old.items ++ name.now ++ 32 ∷ who_byte node.now ∷ 32 ∷ decimal page ++ 32 ∷ who_byte to.now ∷ tail_text (suffix_words suffix.now)) }
+    ensures { OnOk result (out.new.items ≡ out.old.items ++ (name.now ++ (32 ∷ who_byte node.now ∷ 32 ∷ (decimal page ++ 32 ∷ who_byte to.now ∷ tail_text (suffix_words suffix.now))))) }
 {
     put_text(name, out)?;
     put_who(node, out)?;
@@ -155,8 +155,15 @@ fn put_pairs(pairs: &[Pair], out: &mut Vec<u8>) -> Result<(), NoMemory>
     Ok(())
 }
 
+/// Adds pairs and the suffix at the end.
+fn put_pairs_and_suffix(pairs: &[Pair], suffix: &Suffix, out: &mut Vec<u8>) -> Result<(), NoMemory>
+    ensures { OnOk result (out.new.items ≡ out.old.items ++ tail_text (flat_map pair_words pairs.now ++ suffix_words suffix.now)) }
+{
+    put_pairs(pairs, out)?;
+    put_suffix(suffix, out)
+}
+
 /// Adds a line of pairs at the end.
-#[tactic(auto, using(crate::proofs::Tails::tail_pairs))]
 pub(crate) fn put_set(
     name: &[u8],
     node: &Who,
@@ -164,10 +171,9 @@ pub(crate) fn put_set(
     suffix: &Suffix,
     out: &mut Vec<u8>,
 ) -> Result<(), NoMemory>
-    ensures { OnOk result (out.new.items ≡ out.old.items ++ name.now ++ 32 ∷ who_byte node.now ∷ tail_text (flat_map pair_words pairs.now ++ suffix_words suffix.now)) }
+    ensures { OnOk result (out.new.items ≡ out.old.items ++ (name.now ++ (32 ∷ who_byte node.now ∷ tail_text (flat_map pair_words pairs.now ++ suffix_words suffix.now)))) }
 {
     put_text(name, out)?;
     put_who(node, out)?;
-    put_pairs(pairs, out)?;
-    put_suffix(suffix, out)
+    put_pairs_and_suffix(pairs, suffix, out)
 }
