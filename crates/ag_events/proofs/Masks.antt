@@ -1,9 +1,9 @@
 -- A mask that is printed is read again.
-use Rattle.std.proofs.Common.{◌≡◌, ℕ, zero, suc, ◌+◌, ◌-◌, ◌*◌, ◌/◌, ◌%◌, ◌<◌, ◌≤◌, ◌^◌, List, [], ◌∷◌, length, Bool, true, false, cond, ltb, leb, eqb, ◌&&◌, Some, None, refl, sym, ap, ◌∙◌, arith, inl, inr}
+use Rattle.std.proofs.Common.{◌≡◌, ℕ, zero, suc, ◌+◌, ◌-◌, ◌*◌, ◌/◌, ◌%◌, ◌<◌, ◌≤◌, ◌^◌, List, [], ◌∷◌, length, Bool, true, false, cond, leb, eqb, ◌&&◌, Some, None, ap, ◌∙◌, arith, inl, inr}
 use Rattle.std.specs.Fmt.{digits, digits_onto, digit_glyph}
 use Rattle.std.proofs.Math.Nat.{pow-succ'}
 use Rattle.std.proofs.lemmas.Bool.{cases_lt, cases_Bool, eqb-true, eq-eqb, le-ltb, lt-ltb, le-leb, lt-leb, and_from, and_right}
-use Rattle.ag_script.specs.Hex.{◌>>=◌, hex_at, hex_value}
+use Rattle.ag_script.specs.Hex.{hex_at, hex_value}
 
 glyph_again : (d : ℕ) → d < 16 → hex_at (digit_glyph false d) ≡ Some d
 glyph_again d small = elim (cases_lt d 10) [

@@ -1,5 +1,5 @@
 -- Each word is spelled as it is printed.
-use Rattle.std.proofs.Common.{◌≡◌, ℕ, ◌+◌, ◌%◌, ◌<◌, List, [], ◌∷◌, map, refl, ap, arith}
+use Rattle.std.proofs.Common.{◌≡◌, ℕ, ◌+◌, ◌%◌, List, [], ◌∷◌, map, refl, ap, arith}
 use Rattle.std.specs.List.{AllByRecursion}
 use Rattle.ag_model.specs.declared.event.Who.{Who}
 use Rattle.ag_model.specs.declared.event.Who.TheVariants.{Letter, Primary}

@@ -1,5 +1,5 @@
 -- What the words of an event may say.
-use Rattle.std.specs.Prelude.{◌≡◌, ◌≢◌, ℕ, ◌<◌, ◌≤◌, ◌^◌, List, false, ◌==◌}
+use Rattle.std.specs.Prelude.{◌≢◌, ◌<◌, ◌≤◌, ◌^◌}
 use Rattle.std.specs.List.{AllByRecursion}
 use Rattle.ag_model.specs.declared.config.Config.{Config}
 use Rattle.ag_model.specs.declared.event.Event.{Event}
