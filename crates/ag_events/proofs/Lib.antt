@@ -1,0 +1,4 @@
+pub mod Tails
+pub mod Masks
+pub mod Spelled
+pub mod Splits
