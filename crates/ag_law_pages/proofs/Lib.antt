@@ -1,0 +1,5 @@
+pub mod Touching
+pub mod Values
+pub mod Grown
+pub mod Framed
+pub mod Changed
