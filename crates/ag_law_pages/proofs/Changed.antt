@@ -54,6 +54,7 @@ pub reworded : (ahead : Bool) (pages : ℕ) (k : Kept) (said : ℕ → Known) (s
     → IsRight ahead pages k said state pool → IsRight ahead pages (with_words k m rows) said state pool
 reworded ahead pages k said state pool m rows same r = record {
   disk = reworded-disk pages k said m rows same r.disk;
+  whole = r.whole;
   count = r.count;
   kept_state = r.kept_state ∙ sym same.reverting;
   low = λ x lt. omega (arith, r.low x lt, same.redo);
@@ -123,6 +124,7 @@ pub rewritten : (ahead : Bool) (pages : ℕ) (k : Kept) (before after : ℕ → 
     → IsRightDisk pages (with_images k images) after → IsRight ahead pages k before state pool → IsRight ahead pages (with_images k images) after state pool
 rewritten ahead pages k before after images state pool each disk r = record {
   disk = disk;
+  whole = r.whole;
   count = r.count;
   kept_state = r.kept_state;
   low = r.low;
@@ -149,6 +151,7 @@ raised pages k said state pool redo steady least clean r = record {
         let here = (r.each page is).shown (shown-steady own steady) in
         value-redo pages (stripe_at pool (stripe_of page)).applied (stripe_at pool (stripe_of page)).applied redo page (said page) k.log (r.high (stripe_of page) x) (least (stripe_of page) x) (here.clean (clean page is));
   };
+  whole = r.whole;
   count = r.count;
   kept_state = r.kept_state;
   low = least;

@@ -1,7 +1,7 @@
 -- What stays right as memory reads pages in, and changes how they stand.
 use Rattle.std.proofs.Common.{◌≡◌, ◌≢◌, ℕ, ◌+◌, ◌-◌, ◌<◌, ◌≤◌, Bool, true, false, List, length, get_or, set, map, refl, sym, ap, subst, ◌∙◌, arith}
 use Rattle.std.specs.Prelude.{Option, Some, None}
-use Rattle.std.proofs.lemmas.List.{get_or-map}
+use Rattle.std.proofs.lemmas.List.{length-set}
 use Rattle.ag_lists.proofs.Places.{at_set_there}
 use Rattle.ag_lists.proofs.Results.{some_is}
 use Rattle.ag_model.specs.declared.value.PageValue.{PageValue}
@@ -28,17 +28,22 @@ framed v pages p f P pool count is_p each here q is_q =
     let e : q - 16 + 16 ≡ q = omega arith in
     subst (λ (n : ℕ). P n (get_or (set v.frames (p - 16) f) (q - 16) empty_frame)) e (on (q - 16) (omega arith))
 
-module _ (ahead : Bool) (pages : ℕ) (k : Kept) (said : ℕ → Known) (state : ℕ) (v : PoolView) (pool : IsPool v) (r : IsRight ahead pages k said state v) where
+-- a pool with another frame
+set-whole : (v : PoolView) (p : ℕ) (f : Frame) → IsPool v → IsPool (with_frame v p f)
+set-whole v p f pool = record { low = pool.low; high = pool.high; frames = length-set v.frames (p - 16) f ∙ pool.frames; stripes = pool.stripes }
+
+module _ (ahead : Bool) (pages : ℕ) (k : Kept) (said : ℕ → Known) (state : ℕ) (v : PoolView) (r : IsRight ahead pages k said state v) where
   -- a replica with another frame of a page
   pub reframed : (p : ℕ) (f : Frame) → IsDataPage pages p → IsRightPage ahead pages k said state (stripe_at v (stripe_of p)).applied p f → IsRight ahead pages k said state (with_frame v p f)
   reframed p f is here = record {
     disk = r.disk;
+    whole = set-whole v p f r.whole;
     count = r.count;
     kept_state = r.kept_state;
     low = r.low;
     high = r.high;
     reverting = r.reverting;
-    each = framed v pages p f (λ q g. IsRightPage ahead pages k said state (stripe_at v (stripe_of q)).applied q g) pool r.count is r.each here;
+    each = framed v pages p f (λ q g. IsRightPage ahead pages k said state (stripe_at v (stripe_of q)).applied q g) r.whole r.count is r.each here;
   }
 
   -- a page is read in that is clean
@@ -91,9 +96,10 @@ module _ (ahead : Bool) (pages : ℕ) (k : Kept) (said : ℕ → Known) (state :
       })
 
   -- other LSNs are published
-  pub republished : (stripes : List Stripe) → ((x : ℕ) → (stripe_at (with_stripes v stripes) x).applied ≡ (stripe_at v x).applied) → IsRight ahead pages k said state (with_stripes v stripes)
-  republished stripes same = record {
+  pub republished : (stripes : List Stripe) → length stripes ≡ 16 → ((x : ℕ) → (stripe_at (with_stripes v stripes) x).applied ≡ (stripe_at v x).applied) → IsRight ahead pages k said state (with_stripes v stripes)
+  republished stripes long same = record {
     disk = r.disk;
+    whole = record { low = r.whole.low; high = r.whole.high; frames = r.whole.frames; stripes = long };
     count = r.count;
     kept_state = r.kept_state;
     low = λ x lt. omega (arith, same x, r.low x lt);

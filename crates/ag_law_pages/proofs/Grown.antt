@@ -61,6 +61,7 @@ pub grown : (ahead : Bool) (pages : ℕ) (k : Kept) (said : ℕ → Known) (stat
     → IsRight ahead pages k said state pool → IsRight ahead pages (with_log k longer) said state pool
 grown ahead pages k said state pool longer p proper spelled r = record {
   disk = grown-disk pages k said longer p proper spelled r.disk;
+  whole = r.whole;
   count = r.count;
   kept_state = r.kept_state;
   low = r.low;

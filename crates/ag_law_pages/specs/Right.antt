@@ -8,7 +8,7 @@ use Rattle.ag_rules.specs.Replica.{Kept, image, is_reverting}
 use Rattle.ag_stripe.specs.Known.{Known}
 use Rattle.ag_stripe.specs.Spelled.{AreSpelled}
 use Rattle.ag_pool.specs.declared.frame.Frame.{Frame}
-use Rattle.ag_pool.specs.View.{PoolView, frame, stripe_at}
+use Rattle.ag_pool.specs.View.{PoolView, IsPool, frame, stripe_at}
 use Rattle.ag_law_pages.specs.Images.{IsDataPage, CanRedo, IsShown, IsHidden}
 
 -- whether the image of a page is the replica's own: it is sound, and the page isn't foreign
@@ -41,6 +41,7 @@ pub record IsRightPage (ahead : Bool) (pages : ℕ) (k : Kept) (said : ℕ → K
 -- what memory has of all pages agrees with the log and with what is kept
 pub record IsRight (ahead : Bool) (pages : ℕ) (k : Kept) (said : ℕ → Known) (state : ℕ) (pool : PoolView) : Type 0 where
   pub disk : IsRightDisk pages k said
+  pub whole : IsPool pool
   pub count : pool.pages ≡ pages
   pub kept_state : is_reverting state ≡ is_reverting k.master.state
   pub low : (x : ℕ) → x < 16 → k.master.redo_start ≤ (stripe_at pool x).applied

@@ -19,10 +19,10 @@ postings (Some p) = record { to = p.to; message = p.message } ∷ []
 -- A replica did a part of the rules, as far as its event's order let it come: its writes came so far. Where more can be written the
 -- part is done to its end, and else what is on the disk can be started from, unless a fault came.
 pub record Does {D : Type 0} (reads : D → Image) (old : Up D) (part : Part) (new : Up D) (done : Done) : Type 0 where
-  pub reached : reached_of reads new.data ≡ after_batches (reached_of reads old.data) part.writes
-  pub pages : new.data.master.pages ≡ old.data.master.pages
-  pub disk : new.data.progress.came ≢ Unknown → IsRightDisk old.data.master.pages (kept_of reads new.data) (said_of reads new.data)
-  pub right : new.data.progress.came ≡ Underway → IsUp reads false new
-  pub after : new.data.progress.came ≡ Underway → replica_of reads new ≡ part.after
-  pub answer : new.data.progress.came ≡ Underway → done.answer ≡ part.answer
-  pub out : new.data.progress.came ≡ Underway → postings done.out ≡ part.out
+  pub reached : reached_of reads new.durable ≡ after_batches (reached_of reads old.durable) part.writes
+  pub pages : new.durable.master.pages ≡ old.durable.master.pages
+  pub disk : new.durable.progress.came ≢ Unknown → IsRightDisk old.durable.master.pages (kept_of reads new.durable) (said_of reads new.durable)
+  pub right : new.durable.progress.came ≡ Underway → IsUp reads false new
+  pub after : new.durable.progress.came ≡ Underway → replica_of reads new ≡ part.after
+  pub answer : new.durable.progress.came ≡ Underway → done.answer ≡ part.answer
+  pub out : new.durable.progress.came ≡ Underway → postings done.out ≡ part.out

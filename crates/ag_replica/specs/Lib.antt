@@ -1,3 +1,4 @@
 pub mod Faults
 pub mod Ups
+pub mod Reading
 pub mod Doing

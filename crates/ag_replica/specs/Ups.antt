@@ -24,7 +24,7 @@ module _ {D : Type 0} (reads : D → Image) where
     leads = u.standing.leads;
     term = u.standing.term;
     state = u.standing.state;
-    kept = kept_of reads u.data;
+    kept = kept_of reads u.durable;
     pages = marks_of u.pool.frames;
     stripes = u.pool.stripes;
     following = u.following;
@@ -37,5 +37,5 @@ module _ {D : Type 0} (reads : D → Image) where
 
   -- more can be written, and what memory has of the pages agrees with the log and with the disk; ahead: they may be ahead of their stripes
   pub record IsUp (ahead : Bool) (u : Up D) : Type 0 where
-    pub underway : u.data.progress.came ≡ Underway
-    pub right : IsRight ahead u.data.master.pages (kept_of reads u.data) (said_of u.data) u.standing.state u.pool
+    pub underway : u.durable.progress.came ≡ Underway
+    pub right : IsRight ahead u.durable.master.pages (kept_of reads u.durable) (said_of u.durable) u.standing.state u.pool

@@ -6,12 +6,14 @@ mod done;
 mod fault;
 mod following;
 mod leading;
+mod reading;
 mod site;
 mod up;
 
 pub use done::{Done, Posting};
 pub use fault::ReplicaFault;
 pub use following::{Following, Snapshot};
+pub use reading::read_in;
 pub use leading::{Leading, OpenTxn};
 pub use site::Site;
 pub use up::{Standing, Up};

@@ -18,7 +18,7 @@ pub struct Standing {
 /// A replica that is up: its data on the disk, its pages in memory, where it stands, and what it knows as a secondary and as a primary.
 #[derive(Drop)]
 pub struct Up<D: Disk> {
-    pub data: Durable<D>,
+    pub durable: Durable<D>,
     pub pool: Pool,
     pub standing: Standing,
     pub following: Following,
