@@ -169,3 +169,38 @@ raised pages k said state pool redo steady least clean r = record {
     true_false e = cc
     shown-steady : {a b : Bool} → a ≡ true → b ≡ false → (a && not b) ≡ true
     shown-steady e f = λ i. e i && not (f i)
+
+-- a disk whose images say the same of the data pages
+pub resaid-disk : (pages : ℕ) (k : Kept) (said other : ℕ → Known) → ((page : ℕ) → IsDataPage pages page → other page ≡ said page) → IsRightDisk pages k said → IsRightDisk pages k other
+resaid-disk pages k said other same d = record {
+  proper = d.proper;
+  spelled = d.spelled;
+  redo = d.redo;
+  settled = d.settled;
+  images = λ page is own. subst (λ (x : Known). CanRedo pages k.log.records k.master.redo_start page x) (sym (same page is)) (d.images page is own);
+}
+
+resaid-page : (ahead : Bool) (pages : ℕ) (k : Kept) (said other : ℕ → Known) (state applied page : ℕ) (f : Frame) → other page ≡ said page → IsRightPage ahead pages k said state applied page f → IsRightPage ahead pages k other state applied page f
+resaid-page ahead pages k said other state applied page f same r = record {
+  shown = λ is. let s = r.shown is in record {
+    kept = s.kept;
+    clean = λ e. subst (λ (x : Known). IsValueIn pages k.log.records applied (reach ahead k applied) page x) (sym same) (s.clean e);
+    read = s.read;
+  };
+  hidden = r.hidden;
+  pending = r.pending;
+  held = r.held;
+}
+
+-- a replica whose images say the same of the data pages
+pub resaid : (ahead : Bool) (pages : ℕ) (k : Kept) (said other : ℕ → Known) (state : ℕ) (pool : PoolView) → ((page : ℕ) → IsDataPage pages page → other page ≡ said page) → IsRight ahead pages k said state pool → IsRight ahead pages k other state pool
+resaid ahead pages k said other state pool same r = record {
+  disk = resaid-disk pages k said other same r.disk;
+  whole = r.whole;
+  count = r.count;
+  kept_state = r.kept_state;
+  low = r.low;
+  high = r.high;
+  reverting = r.reverting;
+  each = λ page is. resaid-page ahead pages k said other state (stripe_at pool (stripe_of page)).applied page (frame pool page) (same page is) (r.each page is);
+}

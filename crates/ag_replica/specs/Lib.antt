@@ -1,4 +1,6 @@
 pub mod Faults
 pub mod Ups
 pub mod Reading
+pub mod Writing
+pub mod Accessing
 pub mod Doing

@@ -2,6 +2,7 @@
 //! stands here; the acts themselves stand in crates above, by who does them.
 #![tactic(auto)]
 
+mod accessing;
 mod done;
 mod fault;
 mod following;
@@ -9,11 +10,14 @@ mod leading;
 mod reading;
 mod site;
 mod up;
+mod writing;
 
+pub use accessing::access;
 pub use done::{Done, Posting};
 pub use fault::ReplicaFault;
 pub use following::{Following, Snapshot};
 pub use reading::read_in;
 pub use leading::{Leading, OpenTxn};
 pub use site::Site;
+pub use writing::{append, mark, note, save};
 pub use up::{Standing, Up};
