@@ -1,3 +1,5 @@
 pub mod Cells
 pub mod ReadIn
 pub mod Singles
+pub mod Quiet
+pub mod Accesses
