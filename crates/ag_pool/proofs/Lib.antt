@@ -1,3 +1,4 @@
 pub mod Pools
 pub mod Each
 pub mod Passes
+pub mod Redone
