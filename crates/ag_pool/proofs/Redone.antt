@@ -14,28 +14,32 @@ use Rattle.ag_pool.specs.Redo.{redone_frame, redone_by, redone_page, numbered_af
 use Rattle.ag_pool.proofs.Each.{each_from, each-then, each-same, each-none}
 use Rattle.ag_pool.proofs.Passes.{frame-each, has-each}
 
+-- one entry on a frame, and whether it touches the page
+abbrev step : Frame → ℕ × Record → Frame
+step g e = redone_frame e.0 e.1 g
+
+abbrev hits : ℕ → ℕ → ℕ × Record → Bool
+hits pages page e = touches pages page e.1
+
 -- a record more, at the end
 pub redone-push : (pages page k : ℕ) (rs : List Record) (r : Record) (f : Frame)
     → redone_by pages page (enumerate_from k (rs ++ r ∷ [])) f ≡ cond (touches pages page r) (redone_frame (k + length rs) r (redone_by pages page (enumerate_from k rs) f)) (redone_by pages page (enumerate_from k rs) f)
 redone-push pages page k [] r f = by_test (touches pages page r)
   where
-    by_test : (b : Bool) → fold (λ (g : Frame) (e : ℕ × Record). redone_frame e.0 e.1 g) f (cond b ((k, r) ∷ []) []) ≡ cond b (redone_frame (k + 0) r f) f
+    by_test : (b : Bool) → fold step f (cond b ((k, r) ∷ []) []) ≡ cond b (redone_frame (k + 0) r f) f
     by_test true = let e : k ≡ k + 0 = omega arith in ap (λ (n : ℕ). redone_frame n r f) e
     by_test false = refl
 redone-push pages page k (y ∷ rs) r f =
     let e : k + 1 + length rs ≡ k + suc (length rs) = omega arith in
-    by_test (touches pages page y) ∙ ap (λ (n : ℕ). cond (touches pages page r) (redone_frame n r (redone_by pages page (enumerate_from k (y ∷ rs)) f)) (redone_by pages page (enumerate_from k (y ∷ rs)) f)) e
+    by_test (redone-push pages page (k + 1) rs r) (touches pages page y) ∙ ap (λ (n : ℕ). cond (touches pages page r) (redone_frame n r (redone_by pages page (enumerate_from k (y ∷ rs)) f)) (redone_by pages page (enumerate_from k (y ∷ rs)) f)) e
   where
-    abbrev step : Frame → ℕ × Record → Frame
-    step g e = redone_frame e.0 e.1 g
-
-    abbrev on : ℕ × Record → Bool
-    on e = touches pages page e.1
-
-    by_test : (b : Bool) → fold step f (cond b ((k, y) ∷ filter on (enumerate_from (k + 1) (rs ++ r ∷ []))) (filter on (enumerate_from (k + 1) (rs ++ r ∷ []))))
-        ≡ cond (touches pages page r) (redone_frame (k + 1 + length rs) r (fold step f (cond b ((k, y) ∷ filter on (enumerate_from (k + 1) rs)) (filter on (enumerate_from (k + 1) rs))))) (fold step f (cond b ((k, y) ∷ filter on (enumerate_from (k + 1) rs)) (filter on (enumerate_from (k + 1) rs))))
-    by_test true = redone-push pages page (k + 1) rs r (redone_frame k y f)
-    by_test false = redone-push pages page (k + 1) rs r f
+    by_test : ((g : Frame) → redone_by pages page (enumerate_from (k + 1) (rs ++ r ∷ [])) g
+        ≡ cond (touches pages page r) (redone_frame (k + 1 + length rs) r (redone_by pages page (enumerate_from (k + 1) rs) g)) (redone_by pages page (enumerate_from (k + 1) rs) g))
+        → (b : Bool) → fold step f (cond b ((k, y) ∷ filter (hits pages page) (enumerate_from (k + 1) (rs ++ r ∷ []))) (filter (hits pages page) (enumerate_from (k + 1) (rs ++ r ∷ []))))
+        ≡ cond (touches pages page r) (redone_frame (k + 1 + length rs) r (fold step f (cond b ((k, y) ∷ filter (hits pages page) (enumerate_from (k + 1) rs)) (filter (hits pages page) (enumerate_from (k + 1) rs)))))
+        (fold step f (cond b ((k, y) ∷ filter (hits pages page) (enumerate_from (k + 1) rs)) (filter (hits pages page) (enumerate_from (k + 1) rs))))
+    by_test ih true = ih (redone_frame k y f)
+    by_test ih false = ih f
 
 -- no record
 pub all-none : (x pages lsn : ℕ) (frames : List Frame) → frames ≡ each_from (redone_page x pages lsn []) 16 frames
@@ -75,15 +79,14 @@ module _ (x pages applied i : ℕ) (records : List Record) (r : Record) (lt : i 
       let is : frame_in old page ≡ redone_by pages page (numbered_after applied (take i records)) (frame_in start page) =
       ap (λ (l : List Frame). frame_in l page) before ∙ frame-each (redone_page x pages applied (take i records)) start page there'
       ∙ ap (λ (b : Bool). cond b (redone_by pages page (numbered_after applied (take i records)) (frame_in start page)) (frame_in start page)) mine in
-      let n : applied + 1 + length (take i records) ≡ applied + i + 1 = omega (arith, length-take i records) in
-      (
+      let n : applied + 1 + length (take i records) ≡ applied + i + 1 = omega (arith, length-take i records) in (
         own,
         there',
         record {
           before = take i records;
           entry = r;
           after = drop (suc i) records;
-          parts = sym (take-append-drop i records) ∙ ap (λ (l : List Record). take i records ++ l) (drop-cons i records r lt) ∙ ap (λ (y : Record). take i records ++ y ∷ drop (suc i) records) (sym there);
+          parts = sym (take-append-drop i records) ∙ ap (λ (l : List Record). take i records ++ l) (drop-cons records i r lt) ∙ ap (λ (y : Record). take i records ++ y ∷ drop (suc i) records) (sym there);
           touched = on;
           full = λ can. full (λ v e below. can v (sym (ap (λ (g : Frame). g.value) is) ∙ e) (omega arith));
         },

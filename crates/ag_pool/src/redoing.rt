@@ -68,6 +68,7 @@ fn redo_on(
     lsn: u64,
     entry: &Record,
 ) -> Result<(), PoolFault>
+    ensures count { length frames.new.items ≡ length frames.old.items }
     ensures redone { OnOk result (frames.new.items ≡ each_with_page (redone_where x lsn entry.now (λ q. q == page)) frames.old.items) }
     ensures refused { IfErr result (IsRefused x lsn entry.now (λ q. q == page) frames.old.items) }
 {
@@ -89,6 +90,7 @@ fn redo_listed(
     lsn: u64,
     entry: &Record,
 ) -> Result<(), PoolFault>
+    ensures count { length frames.new.items ≡ length frames.old.items }
     ensures redone { OnOk result (frames.new.items ≡ each_with_page (redone_where x lsn entry.now (λ q. contains q listed.now)) frames.old.items) }
     ensures refused { IfErr result (IsRefused x lsn entry.now (λ q. contains q listed.now) frames.old.items) }
 {
@@ -108,6 +110,7 @@ fn redo_entry(
 ) -> Result<(), PoolFault>
     requires some { 0 < pages }
     requires few { pages ≤ 2048 }
+    ensures count { length frames.new.items ≡ length frames.old.items }
     ensures redone { OnOk result (frames.new.items ≡ each_with_page (redone_where x lsn entry.now (λ q. touches pages q entry.now)) frames.old.items) }
     ensures refused { IfErr result (IsRefused x lsn entry.now (λ q. touches pages q entry.now) frames.old.items) }
 {
@@ -133,6 +136,7 @@ pub(crate) fn redo_all(
     requires few { pages ≤ 2048 }
     requires small { applied + length records.now < 2 ^ 64 }
     ensures end { IfOk result (λ end. end ≡ applied + length records.now) }
+    ensures count { length frames.new.items ≡ length frames.old.items }
     ensures redone { OnOk result (frames.new.items ≡ each_with_page (redone_page x pages applied records.now) frames.old.items) }
     ensures refused { IfErr result (AreRefused x pages applied records.now frames.old.items) }
 {
