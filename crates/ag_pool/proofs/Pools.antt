@@ -83,5 +83,5 @@ redo-seen pages frames new xs records k x end q r e lt is same far after =
       pages = pages;
       frames = (after ∙ ap (λ (s : Stripe). each_with_page (redone_page x pages s.applied records) frames) one) i;
       stripes = (map-set stripe_of xs k (record { applied = end; published = r.published })
-      ∙ (λ j. set (map stripe_of xs) (e j) (record { applied = (far ∙ ap (λ (s : Stripe). s.applied + length records) one) j; published = (two j).published }))) i;
+          ∙ (λ j. set (map stripe_of xs) (e j) (record { applied = (far ∙ ap (λ (s : Stripe). s.applied + length records) one) j; published = (two j).published }))) i;
     }

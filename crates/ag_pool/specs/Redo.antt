@@ -1,9 +1,11 @@
 -- What redo does to the frame of a page, and to the frames of a stripe.
-use Rattle.std.specs.Prelude.{◌≡◌, ℕ, ◌+◌, ◌<◌, Bool, true, Option, Some, None, is_some, ◌||◌, ◌==◌, if◌then◌else◌, List, ◌∷◌, ◌++◌, length, map, set}
+use Rattle.std.specs.Prelude.{◌≡◌, ℕ, ◌+◌, ◌<◌, ◌≤◌, Bool, true, Option, Some, None, IfSome, is_some, ◌||◌, ◌==◌, if◌then◌else◌, List, ◌∷◌, ◌++◌, length, map, set}
 use Rattle.std.specs.List.{enumerate_from, filter, fold}
 use Rattle.ag_model.specs.declared.record.Record.{Record}
 use Rattle.ag_model.specs.declared.value.PageValue.{PageValue}
+use Rattle.ag_model.specs.Page.{value}
 use Rattle.ag_model.specs.Rows.{stripe_of, touches}
+use Rattle.ag_model.specs.Sizes.{versions_size}
 use Rattle.ag_stripe.specs.Redo.{redone_value, HasRoom}
 use Rattle.ag_pool.specs.declared.fault.PoolFault.{PoolFault}
 use Rattle.ag_pool.specs.declared.fault.PoolFault.TheVariants.{Full, NoMemory}
@@ -61,3 +63,18 @@ pub record HasNoRoom (pages page lsn : ℕ) (records : List Record) (f : Frame) 
 abbrev pub IsFullBy : ℕ → List Record → PoolView → PoolFault → Type 0
 IsFullBy x records v (Full page) = (stripe_of page ≡ x) × (is_page v page ≡ true) × HasNoRoom v.pages page (stripe_at v x).applied records (frame v page)
 IsFullBy x records v NoMemory = Unit {0}
+
+-- a page has the value that it has after some record of the log, from this LSN on
+pub record IsValueFrom (pages : ℕ) (log : List Record) (lsn page : ℕ) (v : PageValue) : Type 0 where
+  pub at : ℕ
+  pub low : lsn ≤ at
+  pub high : at ≤ length log
+  pub value : v ≡ value pages log at page
+
+-- the same of each page of a stripe that was read in, from the stripe's applied LSN on
+abbrev pub AreValuesFrom : ℕ → List Record → PoolView → Type 0
+AreValuesFrom x log v = (page : ℕ) → is_page v page ≡ true → stripe_of page ≡ x → IfSome (frame v page).value (IsValueFrom v.pages log (stripe_at v x).applied page)
+
+-- the versions of each page fit, after each record
+abbrev pub AreFitting : ℕ → List Record → Type 0
+AreFitting pages log = (n page : ℕ) → versions_size (value pages log n page).versions ≤ 8144

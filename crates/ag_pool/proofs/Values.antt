@@ -1,0 +1,1 @@
+-- Redo takes each page to its value after the last of the records, or leaves it where it is ahead.
