@@ -1,5 +1,5 @@
 //! Laws of redo in a pool.
-ghost use Rattle.std.specs.Prelude.{◌≡◌, ◌≢◌, ◌+◌, ◌<◌, ◌≤◌, ◌||◌, ◌&&◌, ℕ, List, max, true, false, is_some, Some};
+ghost use Rattle.std.specs.Prelude.{◌≡◌, ◌≢◌, ◌+◌, ◌<◌, ◌≤◌, ◌||◌, ◌&&◌, ℕ, List, length, max, true, false, is_some, Some};
 ghost use Rattle.std.specs.List.{list_any};
 ghost use Rattle.ag_model.specs.declared.record.Record.{Record};
 ghost use Rattle.ag_model.specs.Blocks.{after_to};
