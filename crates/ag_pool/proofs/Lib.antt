@@ -5,3 +5,4 @@ pub mod Redone
 pub mod Marks
 pub mod Stripes
 pub mod Values
+pub mod Rooms

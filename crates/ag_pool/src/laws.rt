@@ -39,7 +39,7 @@ pub fn exact()
 /// A page that is ahead of the records stays ahead, and else comes to their end.
 pub fn ahead()
     ensures { (pages page low high at : ℕ) (log records : List Record) (f : Frame) → AreProper pages log → 16 ≤ page → page < 16 + pages
-        → low ≤ high → high ≤ length log → records ≡ after_to low high log → low ≤ at → at ≤ length log → f.value ≡ Some (value pages log at page)
+        → low ≤ high → high ≤ length log → records ≡ after_to low high log → low ≤ at → f.value ≡ Some (value pages log at page)
         → (redone_by pages page (numbered_after low records) f).value ≡ Some (value pages log (max high at) page) }
 {}
 
@@ -52,7 +52,7 @@ pub fn untouched()
 /// A page that has a value of a log finds room for the log's records.
 pub fn room()
     ensures page { (pages page low high at : ℕ) (log records : List Record) (f : Frame) → AreProper pages log → AreFitting pages log → 16 ≤ page → page < 16 + pages
-        → low ≤ high → high ≤ length log → records ≡ after_to low high log → low ≤ at → at ≤ length log → f.value ≡ Some (value pages log at page)
+        → low ≤ high → high ≤ length log → records ≡ after_to low high log → low ≤ at → f.value ≡ Some (value pages log at page)
         → HasNoRoom pages page low records f → ⊥ }
     ensures stripe { (x page high : ℕ) (log records : List Record) (v : PoolView) → AreProper v.pages log → AreFitting v.pages log → (stripe_at v x).applied ≤ high → high ≤ length log
         → records ≡ after_to (stripe_at v x).applied high log → AreValuesFrom x log v → IsFullBy x records v (Full page) → ⊥ }
