@@ -2,7 +2,7 @@
 use Rattle.std.proofs.Common.{◌≡◌, ℕ, ◌+◌, ◌<◌, ◌≤◌, max, Bool, true, false, cond, ◌&&◌, eqb, leb, ltb, List, length, get_or, set, take, refl, sym, ap, subst, ◌∙◌, arith}
 use Rattle.std.specs.Prelude.{Option, Some, None, IfSome, is_some}
 use Rattle.std.proofs.lemmas.Bool.{and_parts, ltb-true, leb-true, eq-eqb}
-use Rattle.std.proofs.lemmas.List.{length-take, length-drop, get_or-set_same}
+use Rattle.std.proofs.lemmas.List.{length-take, length-drop}
 use Rattle.ag_model.specs.declared.record.Record.{Record}
 use Rattle.ag_model.specs.declared.value.PageValue.{PageValue}
 use Rattle.ag_model.specs.Blocks.{after_to}
@@ -15,8 +15,8 @@ use Rattle.ag_pool.specs.declared.frame.Frame.{Frame}
 use Rattle.ag_pool.specs.Redo.{redone_by, redone_stripe, numbered_after, HasNoRoom, IsFullBy, IsValueFrom, AreValuesFrom, AreFitting}
 use Rattle.ag_pool.specs.View.{PoolView, IsPool, is_page, frame, stripe_at}
 use Rattle.ag_pool.proofs.Marks.{kept}
-use Rattle.ag_pool.proofs.Stripes.{frame-redone}
-use Rattle.ag_pool.proofs.Values.{ahead, room}
+use Rattle.ag_pool.proofs.Stripes.{frame-redone, lsns-redone}
+use Rattle.ag_pool.proofs.Values.{ahead, exact, room}
 
 -- a page without a value finds room
 bare-room : (pages page lsn : ℕ) (records : List Record) (f : Frame) → f.value ≡ None → HasNoRoom pages page lsn records f → ⊥
@@ -31,6 +31,19 @@ no-value : (P : PageValue → Type 0) (o : Option PageValue) → is_some o ≡ f
 no-value P None e = tt
 no-value P (Some v) e = cc
 
+-- the frame of a page of the stripe
+own-redone : (x page : ℕ) (records : List Record) (v : PoolView) → IsPool v → is_page v page ≡ true → stripe_of page ≡ x → frame (redone_stripe x records v) page ≡ redone_by v.pages page (numbered_after (stripe_at v x).applied records) (frame v page)
+own-redone x page records v pool on own =
+    frame-redone x page records v pool on
+    ∙ ap (λ (b : Bool). cond b (redone_by v.pages page (numbered_after (stripe_at v x).applied records) (frame v page)) (frame v page)) (eq-eqb (stripe_of page) x own)
+
+pub stripe-exact : (x page high : ℕ) (log records : List Record) (v : PoolView) → IsPool v → AreProper v.pages log → (stripe_at v x).applied ≤ high → high ≤ length log → records ≡ after_to (stripe_at v x).applied high log
+    → is_page v page ≡ true → stripe_of page ≡ x → (frame v page).value ≡ Some (value v.pages log (stripe_at v x).applied page) → (frame (redone_stripe x records v) page).value ≡ Some (value v.pages log high page)
+stripe-exact x page high log records v pool proper rise reach is on own start =
+    let parts = and_parts (leb 16 page) (ltb page (16 + v.pages)) on in
+    ap (λ (f : Frame). f.value) (own-redone x page records v pool on own)
+    ∙ exact v.pages page (stripe_at v x).applied high log records (frame v page) proper (leb-true 16 page parts.0) (ltb-true page (16 + v.pages) parts.1) rise reach is start
+
 module _ (x high : ℕ) (log records : List Record) (v : PoolView) (proper : AreProper v.pages log) (rise : (stripe_at v x).applied ≤ high) (reach : high ≤ length log) (is : records ≡ after_to (stripe_at v x).applied high log) (all : AreValuesFrom x log v) where
   pub stripe-room : (page : ℕ) → AreFitting v.pages log → IsFullBy x records v (Full page) → ⊥
   stripe-room page fitting (own, on, without) = by_value (frame v page).value refl (all page on own)
@@ -43,11 +56,9 @@ module _ (x high : ℕ) (log records : List Record) (v : PoolView) (proper : Are
 
   pub stripe-values : IsPool v → x < 16 → AreValuesFrom x log (redone_stripe x records v)
   stripe-values pool few page on own =
-      let mine : eqb (stripe_of page) x ≡ true = eq-eqb (stripe_of page) x own in
-      let now : frame (redone_stripe x records v) page ≡ redone_by v.pages page (numbered_after (stripe_at v x).applied records) (frame v page) =
-      frame-redone x page records v pool on ∙ ap (λ (b : Bool). cond b (redone_by v.pages page (numbered_after (stripe_at v x).applied records) (frame v page)) (frame v page)) mine in
+      let now = own-redone x page records v pool on own in
       let long : (stripe_at v x).applied + length records ≡ high = omega (arith, ap length is, length-drop (stripe_at v x).applied (take high log), length-take high log) in
-      let to : (stripe_at (redone_stripe x records v) x).applied ≡ high = ap (λ (s : Stripe). s.applied) (get_or-set_same v.stripes x _ no_stripe (omega (arith, pool.stripes))) ∙ long in
+      let to : (stripe_at (redone_stripe x records v) x).applied ≡ high = ap (λ (s : Stripe). s.applied) (lsns-redone x records v pool few) ∙ long in
       subst (λ (f : Frame). IfSome f.value (IsValueFrom v.pages log (stripe_at (redone_stripe x records v) x).applied page)) (sym now)
       (subst (λ (n : ℕ). IfSome (redone_by v.pages page (numbered_after (stripe_at v x).applied records) (frame v page)).value (IsValueFrom v.pages log n page)) (sym to)
       (by_value (frame v page).value refl (all page on own)))

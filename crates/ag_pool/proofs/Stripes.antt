@@ -1,9 +1,10 @@
 -- The frames and the LSNs of a pool of which a stripe was redone.
-use Rattle.std.proofs.Common.{◌≡◌, ◌≢◌, ℕ, ◌+◌, Bool, true, false, cond, ◌&&◌, eqb, ltb, leb, List, length, sym, ap, subst, ◌∙◌}
+use Rattle.std.proofs.Common.{◌≡◌, ◌≢◌, ℕ, ◌+◌, Bool, true, false, cond, ◌<◌, ◌&&◌, eqb, ltb, leb, List, length, sym, ap, subst, ◌∙◌, arith}
 use Rattle.std.proofs.lemmas.Bool.{eqb-true, false_from_ne_true}
-use Rattle.std.proofs.lemmas.List.{length-set}
+use Rattle.std.proofs.lemmas.List.{length-set, get_or-set_same, get_or-set_other}
 use Rattle.ag_model.specs.declared.record.Record.{Record}
 use Rattle.ag_model.specs.Rows.{stripe_of}
+use Rattle.ag_rules.specs.Replica.{no_stripe}
 use Rattle.ag_pool.specs.declared.frame.Frame.{Frame}
 use Rattle.ag_pool.specs.Passes.{has_frame}
 use Rattle.ag_pool.specs.Redo.{redone_by, redone_page, redone_stripe, numbered_after}
@@ -30,3 +31,9 @@ pool-redone x records v h = record {
   frames = length-each (redone_page x v.pages (stripe_at v x).applied records) 16 v.frames ∙ h.frames;
   stripes = length-set v.stripes x _ ∙ h.stripes;
 }
+
+pub lsns-redone : (x : ℕ) (records : List Record) (v : PoolView) → IsPool v → x < 16 → stripe_at (redone_stripe x records v) x ≡ record (stripe_at v x) { applied = (stripe_at v x).applied + length records }
+lsns-redone x records v h few = get_or-set_same v.stripes x _ no_stripe (omega (arith, h.stripes))
+
+pub lsns-other : (x y : ℕ) (records : List Record) (v : PoolView) → y ≢ x → stripe_at (redone_stripe x records v) y ≡ stripe_at v y
+lsns-other x y records v away = get_or-set_other v.stripes x y _ no_stripe away

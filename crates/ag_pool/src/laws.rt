@@ -17,6 +17,9 @@ pub fn frames()
     ensures frames { (x page : ℕ) (records : List Record) (v : PoolView) → IsPool v → is_page v page ≡ true
         → frame (redone_stripe x records v) page ≡ redone_page x v.pages (stripe_at v x).applied records page (frame v page) }
     ensures others { (x page : ℕ) (records : List Record) (v : PoolView) → IsPool v → is_page v page ≡ true → stripe_of page ≢ x → frame (redone_stripe x records v) page ≡ frame v page }
+    ensures lsns { (x : ℕ) (records : List Record) (v : PoolView) → IsPool v → x < 16
+        → stripe_at (redone_stripe x records v) x ≡ record (stripe_at v x) { applied = (stripe_at v x).applied + length records } }
+    ensures other_lsns { (x y : ℕ) (records : List Record) (v : PoolView) → y ≢ x → stripe_at (redone_stripe x records v) y ≡ stripe_at v y }
     ensures pool { (x : ℕ) (records : List Record) (v : PoolView) → IsPool v → IsPool (redone_stripe x records v) }
 {}
 
@@ -58,8 +61,14 @@ pub fn room()
         → records ≡ after_to (stripe_at v x).applied high log → AreValuesFrom x log v → IsFullBy x records v (Full page) → ⊥ }
 {}
 
-/// After redo each page of the stripe that was read in has a value of the log, from the stripe's new applied LSN on.
+/// The values of a stripe's pages after redo of the records of a log that come next after its applied LSN.
 pub fn values()
-    ensures { (x high : ℕ) (log records : List Record) (v : PoolView) → IsPool v → x < 16 → AreProper v.pages log → (stripe_at v x).applied ≤ high → high ≤ length log
+    // A page that was exact at the applied LSN is exact at the new one.
+    ensures exact { (x page high : ℕ) (log records : List Record) (v : PoolView) → IsPool v → AreProper v.pages log → (stripe_at v x).applied ≤ high → high ≤ length log
+        → records ≡ after_to (stripe_at v x).applied high log → is_page v page ≡ true → stripe_of page ≡ x → (frame v page).value ≡ Some (value v.pages log (stripe_at v x).applied page)
+        → (frame (redone_stripe x records v) page).value ≡ Some (value v.pages log high page) }
+
+    // Each page that was read in and had a value of the log, from the applied LSN on, has one from the new applied LSN on.
+    ensures ahead { (x high : ℕ) (log records : List Record) (v : PoolView) → IsPool v → x < 16 → AreProper v.pages log → (stripe_at v x).applied ≤ high → high ≤ length log
         → records ≡ after_to (stripe_at v x).applied high log → AreValuesFrom x log v → AreValuesFrom x log (redone_stripe x records v) }
 {}

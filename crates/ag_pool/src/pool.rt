@@ -4,7 +4,7 @@ ghost use Rattle.ag_rules.specs.Replica.{least, all_at};
 ghost use Rattle.ag_rules.specs.ResumeMessage.{lowered};
 ghost use Rattle.ag_pool.specs.Frames.{empty_frame, released, not_come, forgotten, lowered_lsns, at_lsn};
 ghost use Rattle.ag_pool.specs.Redo.{redone_stripe, IsFullBy};
-ghost use Rattle.ag_pool.specs.View.{PoolView, frame, with_frame, each_frame, stripe_at, with_stripes};
+ghost use Rattle.ag_pool.specs.View.{PoolView, IsPool, frame, with_frame, each_frame, stripe_at, with_stripes};
 
 use crate::fault::PoolFault;
 use crate::frame::{Frame, Held, StripeLsns, empty_frame, lower_stripe};
@@ -161,6 +161,7 @@ impl Pool {
         ensures answer { result ≡ self.now.pages }
         ensures low { 16 ≤ result }
         ensures high { result ≤ 2048 }
+        ensures whole { IsPool self.now }
     {
         self.pages
     }
