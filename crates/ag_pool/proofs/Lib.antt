@@ -6,3 +6,4 @@ pub mod Marks
 pub mod Stripes
 pub mod Values
 pub mod Rooms
+pub mod Examples

@@ -1,7 +1,7 @@
 -- Redo of one record on frames, and of one record more.
-use Rattle.std.proofs.Common.{◌≡◌, ℕ, ◌+◌, ◌-◌, ◌<◌, ◌≤◌, Bool, true, false, cond, ◌&&◌, ◌||◌, eqb, leb, ltb, List, [], ◌∷◌, ◌++◌, length, get_or, set, map, refl, sym, ap, subst, ◌∙◌, inl, inr, arith}
+use Rattle.std.proofs.Common.{◌≡◌, ℕ, ◌+◌, ◌-◌, Bool, true, false, cond, ◌&&◌, ◌||◌, eqb, leb, ltb, List, length, get_or, set, refl, sym, ap, subst, ◌∙◌, arith}
 use Rattle.std.specs.Prelude.{Option, Some, None, is_some}
-use Rattle.std.proofs.lemmas.Bool.{cases_Bool, and_parts, and_from, ltb-true, leb-true, lt-ltb, le-leb, eqb-true, eq-eqb, false≢true, false_from_ne_true}
+use Rattle.std.proofs.lemmas.Bool.{and_parts, and_from, ltb-true, leb-true, lt-ltb, le-leb, eqb-true, eq-eqb, false≢true, false_from_ne_true}
 use Rattle.ag_model.specs.declared.record.Record.{Record}
 use Rattle.ag_model.specs.declared.value.PageValue.{PageValue}
 use Rattle.ag_model.specs.Rows.{stripe_of}
@@ -10,7 +10,6 @@ use Rattle.ag_stripe.proofs.Redone.{slot-twice, takes-again}
 use Rattle.ag_pool.specs.declared.fault.PoolFault.{PoolFault}
 use Rattle.ag_pool.specs.declared.fault.PoolFault.TheVariants.{Full, NoMemory}
 use Rattle.ag_pool.specs.declared.frame.Frame.{Frame}
-use Rattle.ag_pool.specs.declared.frame.Held.{Held}
 use Rattle.ag_pool.specs.Frames.{empty_frame}
 use Rattle.ag_pool.specs.Passes.{has_frame, frame_in, redone_where, IsRefused}
 use Rattle.ag_pool.specs.Redo.{redone_frame, CanTake}

@@ -9,7 +9,6 @@ use Rattle.ag_pool.specs.declared.frame.Frame.{Frame}
 use Rattle.ag_pool.specs.declared.frame.StripeLsns.{StripeLsns}
 use Rattle.ag_pool.specs.Frames.{stripe_of, lowered_lsns, at_lsn}
 use Rattle.ag_pool.specs.Redo.{each_with_page, redone_page, redone_stripe}
-use Rattle.ag_pool.specs.View.{PoolView}
 
 -- a loop that writes f x over each element x
 pub each-more : {X : Type 0} (f : X → X) (xs ys : List X) (i : ℕ) (d : X) → i < length xs → ys ≡ map f (take i xs) ++ drop i xs → set ys i (f (get_or ys i d)) ≡ map f (take (i + 1) xs) ++ drop (i + 1) xs

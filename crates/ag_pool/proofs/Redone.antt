@@ -1,7 +1,7 @@
 -- Redo of one record more.
-use Rattle.std.proofs.Common.{◌≡◌, ℕ, suc, ◌+◌, ◌-◌, ◌<◌, ◌≤◌, Bool, true, false, cond, ◌&&◌, eqb, List, [], ◌∷◌, ◌++◌, length, get_or, take, drop, map, refl, sym, ap, subst, ◌∙◌, inl, inr, arith}
+use Rattle.std.proofs.Common.{◌≡◌, ℕ, suc, ◌+◌, ◌<◌, Bool, true, false, cond, ◌&&◌, eqb, List, [], ◌∷◌, ◌++◌, length, get_or, take, drop, refl, sym, ap, ◌∙◌, arith}
 use Rattle.std.specs.List.{enumerate_from, filter, fold}
-use Rattle.std.proofs.lemmas.Bool.{cases_Bool, eq-eqb}
+use Rattle.std.proofs.lemmas.Bool.{eq-eqb}
 use Rattle.std.proofs.lemmas.List.{length-take, take-append-drop}
 use Rattle.std.proofs.Math.Seq.{take-suc, drop-cons}
 use Rattle.ag_model.specs.declared.record.Record.{Record}
@@ -10,7 +10,7 @@ use Rattle.ag_pool.specs.declared.fault.PoolFault.{PoolFault}
 use Rattle.ag_pool.specs.declared.fault.PoolFault.TheVariants.{Full, NoMemory}
 use Rattle.ag_pool.specs.declared.frame.Frame.{Frame}
 use Rattle.ag_pool.specs.Passes.{has_frame, frame_in, redone_where, IsRefused, AreRefused}
-use Rattle.ag_pool.specs.Redo.{redone_frame, redone_by, redone_page, numbered_after, CanTake}
+use Rattle.ag_pool.specs.Redo.{redone_frame, redone_by, redone_page, numbered_after}
 use Rattle.ag_pool.proofs.Each.{each_from, each-then, each-same, each-none}
 use Rattle.ag_pool.proofs.Passes.{frame-each, has-each}
 

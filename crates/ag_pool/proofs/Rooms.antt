@@ -1,5 +1,5 @@
 -- A stripe whose pages have values of a log: redo finds room, and leaves values of the log.
-use Rattle.std.proofs.Common.{◌≡◌, ℕ, ◌+◌, ◌<◌, ◌≤◌, max, Bool, true, false, cond, ◌&&◌, eqb, leb, ltb, List, length, get_or, set, take, refl, sym, ap, subst, ◌∙◌, arith}
+use Rattle.std.proofs.Common.{◌≡◌, ℕ, ◌+◌, ◌<◌, ◌≤◌, max, Bool, true, false, cond, leb, ltb, List, length, take, refl, sym, ap, subst, ◌∙◌, arith}
 use Rattle.std.specs.Prelude.{Option, Some, None, IfSome, is_some}
 use Rattle.std.proofs.lemmas.Bool.{and_parts, ltb-true, leb-true, eq-eqb}
 use Rattle.std.proofs.lemmas.List.{length-take, length-drop}
@@ -9,7 +9,7 @@ use Rattle.ag_model.specs.Blocks.{after_to}
 use Rattle.ag_model.specs.Page.{value}
 use Rattle.ag_model.specs.Rows.{stripe_of}
 use Rattle.ag_version.specs.Steps.{AreProper}
-use Rattle.ag_rules.specs.Replica.{Stripe, no_stripe}
+use Rattle.ag_rules.specs.Replica.{Stripe}
 use Rattle.ag_pool.specs.declared.fault.PoolFault.TheVariants.{Full}
 use Rattle.ag_pool.specs.declared.frame.Frame.{Frame}
 use Rattle.ag_pool.specs.Redo.{redone_by, redone_stripe, numbered_after, HasNoRoom, IsFullBy, IsValueFrom, AreValuesFrom, AreFitting}

@@ -1,11 +1,10 @@
 -- The frames and the LSNs of a pool of which a stripe was redone.
-use Rattle.std.proofs.Common.{◌≡◌, ◌≢◌, ℕ, ◌+◌, Bool, true, false, cond, ◌<◌, ◌&&◌, eqb, ltb, leb, List, length, sym, ap, subst, ◌∙◌, arith}
+use Rattle.std.proofs.Common.{◌≡◌, ◌≢◌, ℕ, ◌+◌, Bool, true, cond, ◌<◌, ◌&&◌, eqb, ltb, leb, List, length, ap, ◌∙◌, arith}
 use Rattle.std.proofs.lemmas.Bool.{eqb-true, false_from_ne_true}
 use Rattle.std.proofs.lemmas.List.{length-set, get_or-set_same, get_or-set_other}
 use Rattle.ag_model.specs.declared.record.Record.{Record}
 use Rattle.ag_model.specs.Rows.{stripe_of}
 use Rattle.ag_rules.specs.Replica.{no_stripe}
-use Rattle.ag_pool.specs.declared.frame.Frame.{Frame}
 use Rattle.ag_pool.specs.Passes.{has_frame}
 use Rattle.ag_pool.specs.Redo.{redone_by, redone_page, redone_stripe, numbered_after}
 use Rattle.ag_pool.specs.View.{PoolView, IsPool, is_page, frame, stripe_at}

@@ -1,5 +1,5 @@
 -- What redo does to the frame of a page, and to the frames of a stripe.
-use Rattle.std.specs.Prelude.{◌≡◌, ℕ, ◌+◌, ◌<◌, ◌≤◌, Bool, true, Option, Some, None, IfSome, is_some, ◌||◌, ◌==◌, if◌then◌else◌, List, ◌∷◌, ◌++◌, length, map, set}
+use Rattle.std.specs.Prelude.{◌≡◌, ℕ, ◌+◌, ◌<◌, ◌≤◌, true, Some, IfSome, is_some, ◌||◌, ◌==◌, if◌then◌else◌, List, ◌∷◌, ◌++◌, length, map, set}
 use Rattle.std.specs.List.{enumerate_from, filter, fold}
 use Rattle.ag_model.specs.declared.record.Record.{Record}
 use Rattle.ag_model.specs.declared.value.PageValue.{PageValue}

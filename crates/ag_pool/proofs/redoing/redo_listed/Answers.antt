@@ -1,7 +1,6 @@
 use Rattle.std.proofs.Common.{◌<◌, ◌+◌, length, take, get_or, refl, sym, eqb, ◌∙◌, arith}
 use Rattle.std.proofs.lemmas.Result.{err_from_is_err_and}
 use Rattle.std.proofs.lemmas.List.Folds.{list_any_more, list_any_at}
-use Rattle.std.proofs.lemmas.Bool.{eq-eqb, eqb-true}
 use Rattle.ag_model.specs.Rows.{contains}
 use Rattle.ag_pool.proofs.Passes.{redone-none, redone-more, refused-first}
 use Rattle.ag_pool.proofs.redoing.redo_listed.Goals as goal

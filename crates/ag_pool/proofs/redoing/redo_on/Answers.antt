@@ -1,4 +1,4 @@
-use Rattle.std.proofs.Common.{◌≡◌, ◌&&◌, ◌==◌, Bool, true, false, List, sym, ap, ◌∙◌}
+use Rattle.std.proofs.Common.{◌&&◌, ◌==◌, List, sym, ap, ◌∙◌}
 use Rattle.ag_model.specs.Rows.{stripe_of}
 use Rattle.ag_pool.specs.declared.frame.Frame.{Frame}
 use Rattle.ag_pool.specs.Passes.{has_frame}

@@ -1,8 +1,7 @@
-use Rattle.std.proofs.Common.{◌≡◌, ◌∙◌, ◌<◌, ◌+◌, ap, sym, subst, map, set, arith, List, length}
+use Rattle.std.proofs.Common.{◌≡◌, ◌∙◌, ◌<◌, ap, sym, set, arith, length}
 use Rattle.std.proofs.lemmas.List.{length-map, length-set}
 use Rattle.ag_pool.specs.Frames.{stripe_of}
-use Rattle.ag_pool.specs.View.{PoolView}
-use Rattle.ag_pool.specs.Redo.{redone_stripe, IsFullBy}
+use Rattle.ag_pool.specs.Redo.{redone_stripe}
 use Rattle.ag_pool.proofs.Pools.{redo-seen}
 use Rattle.ag_pool.proofs.pool.Pool.redo.Goals as goal
 
