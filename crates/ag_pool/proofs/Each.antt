@@ -35,7 +35,8 @@ each-none g n (f ∷ frames) e =
     ap (λ (l : List Frame). f ∷ l) rest ∙ ap (λ (x : Frame). x ∷ each_from g (n + 1) frames) (sym here)
 
 -- only the frame of one page changes
-pub each-one : (g : ℕ → Frame → Frame) (page n i : ℕ) (frames : List Frame) (d : Frame) → page ≡ n + i → i < length frames → ((p : ℕ) (f : Frame) → (p ≡ page → ⊥) → g p f ≡ f) → set frames i (g page (get_or frames i d)) ≡ each_from g n frames
+pub each-one : (g : ℕ → Frame → Frame) (page n i : ℕ) (frames : List Frame) (d : Frame) → page ≡ n + i → i < length frames → ((p : ℕ) (f : Frame) → (p ≡ page → ⊥)
+    → g p f ≡ f) → set frames i (g page (get_or frames i d)) ≡ each_from g n frames
 each-one g page n i [] d at lt off = absurd (omega arith)
 each-one g page n zero (f ∷ frames) d at lt off =
     let here : page ≡ n = omega arith in

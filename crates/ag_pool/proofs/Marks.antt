@@ -47,7 +47,13 @@ module _ (pages page : ℕ) where
           → mark_of (fold step (redone_frame e.0 e.1 f) (filter hits entries)) ≡ marked (redone_frame e.0 e.1 f) (list_any hits entries)
           → (b : Bool) → mark_of (fold step f (cond b (e ∷ filter hits entries) (filter hits entries))) ≡ marked f (b || list_any hits entries)
       by_test off on true = on
-          ∙ ap (λ (s : Bool). record { dirty = (f.dirty || is_some f.value) || (s && list_any hits entries); pending = f.pending; held = held_lsn f.held; came = f.came }) (value-stays e.0 e.1 f.value)
+          ∙ ap (λ (s : Bool). record {
+            dirty = (f.dirty || is_some f.value) ||
+                (s && list_any hits entries);
+            pending = f.pending;
+            held = held_lsn f.held;
+            came = f.came;
+          }) (value-stays e.0 e.1 f.value)
           ∙ (λ i. record { dirty = dirty-then f.dirty (is_some f.value) true (list_any hits entries) i; pending = f.pending; held = held_lsn f.held; came = f.came })
       by_test off on false = off
 
@@ -55,7 +61,8 @@ module _ (pages page : ℕ) where
   kept [] f = refl
   kept (e ∷ entries) f = by_test (kept entries f) (kept entries (redone_frame e.0 e.1 f)) (hits e)
     where
-      by_test : is_some (fold step f (filter hits entries)).value ≡ is_some f.value → is_some (fold step (redone_frame e.0 e.1 f) (filter hits entries)).value ≡ is_some (redone_frame e.0 e.1 f).value
+      by_test : is_some (fold step f (filter hits entries)).value ≡ is_some f.value
+          → is_some (fold step (redone_frame e.0 e.1 f) (filter hits entries)).value ≡ is_some (redone_frame e.0 e.1 f).value
           → (b : Bool) → is_some (fold step f (cond b (e ∷ filter hits entries) (filter hits entries))).value ≡ is_some f.value
       by_test off on true = on ∙ value-stays e.0 e.1 f.value
       by_test off on false = off

@@ -57,7 +57,8 @@ module _ (x lsn : ℕ) (r : Record) where
       (and_from (has_frame frames p) (eqb (stripe_of p) x) (and_from (leb 16 p) (ltb p (16 + length frames)) (le-leb 16 p low) (lt-ltb p (16 + length frames) high)) parts.0)))))
 
   -- the frame of one page
-  pub one-redone : (frames : List Frame) (page k : ℕ) (old new : Frame) → (has_frame frames page && eqb (stripe_of page) x) ≡ true → k ≡ page - 16 → old ≡ get_or frames k old → new ≡ redone_frame lsn r old
+  pub one-redone : (frames : List Frame) (page k : ℕ) (old new : Frame) → (has_frame frames page && eqb (stripe_of page) x) ≡ true → k ≡ page - 16
+      → old ≡ get_or frames k old → new ≡ redone_frame lsn r old
       → set frames k new ≡ each_from (redone_where x lsn r (λ q. eqb q page)) 16 frames
   one-redone frames page k old new there at was is =
       let parts = and_parts (has_frame frames page) (eqb (stripe_of page) x) there in
@@ -67,15 +68,19 @@ module _ (x lsn : ℕ) (r : Record) where
       let on : (eqb (stripe_of page) x && eqb page page) ≡ true = and_from (eqb (stripe_of page) x) (eqb page page) parts.1 (eq-eqb page page refl) in
       ap (set frames k) (is ∙ ap (redone_frame lsn r) was ∙ sym (ap (λ (b : Bool). cond b (redone_frame lsn r (get_or frames k old)) (get_or frames k old)) on))
       ∙ each-one (redone_where x lsn r (λ q. eqb q page)) page 16 k frames old (omega arith) (omega arith) (λ p f away.
-      ap (λ (b : Bool). cond b (redone_frame lsn r f) f) (false_from_ne_true (eqb (stripe_of p) x && eqb p page) (λ hit. away (eqb-true p page (and_parts (eqb (stripe_of p) x) (eqb p page) hit).1))))
+      ap (λ (b : Bool). cond b (redone_frame lsn r f) f) (false_from_ne_true (eqb (stripe_of p) x && eqb p page) (λ hit. away (eqb-true p page (and_parts (eqb
+      (stripe_of p) x) (eqb p page) hit).1))))
 
   -- pages, and then others
-  pub redone-more : (p q both : ℕ → Bool) (start old new : List Frame) → ((n : ℕ) → (p n || q n) ≡ both n) → old ≡ each_from (redone_where x lsn r p) 16 start → new ≡ each_from (redone_where x lsn r q) 16 old → new ≡ each_from (redone_where x lsn r both) 16 start
+  pub redone-more : (p q both : ℕ → Bool) (start old new : List Frame) → ((n : ℕ) → (p n || q n) ≡ both n) → old ≡ each_from (redone_where x lsn r p) 16 start
+      → new ≡ each_from (redone_where x lsn r q) 16 old → new ≡ each_from (redone_where x lsn r both) 16 start
   redone-more p q both start old new all before after =
       after ∙ ap (each_from (redone_where x lsn r q) 16) before ∙ each-then (redone_where x lsn r q) (redone_where x lsn r p) 16 start
-      ∙ each-same _ (redone_where x lsn r both) 16 start (λ n f. by_test (eqb (stripe_of n) x) (p n) (q n) f ∙ ap (λ (b : Bool). cond (eqb (stripe_of n) x && b) (redone_frame lsn r f) f) (all n))
+      ∙ each-same _ (redone_where x lsn r both) 16 start (λ n f. by_test (eqb (stripe_of n) x) (p n) (q n) f
+      ∙ ap (λ (b : Bool). cond (eqb (stripe_of n) x && b) (redone_frame lsn r f) f) (all n))
     where
-      by_test : (o a b : Bool) (f : Frame) → cond (o && b) (redone_frame lsn r (cond (o && a) (redone_frame lsn r f) f)) (cond (o && a) (redone_frame lsn r f) f) ≡ cond (o && (a || b)) (redone_frame lsn r f) f
+      by_test : (o a b : Bool) (f : Frame)
+          → cond (o && b) (redone_frame lsn r (cond (o && a) (redone_frame lsn r f) f)) (cond (o && a) (redone_frame lsn r f) f) ≡ cond (o && (a || b)) (redone_frame lsn r f) f
       by_test true true true f = frame-twice lsn r f
       by_test true true false f = refl
       by_test true false true f = refl
@@ -90,13 +95,16 @@ module _ (x lsn : ℕ) (r : Record) where
       never false f = refl
 
   -- a page that can take the record when it is its turn can take it at the start
-  pub refused-first : (p q both : ℕ → Bool) (start old : List Frame) (e : PoolFault) → ((n : ℕ) → q n ≡ true → both n ≡ true) → old ≡ each_from (redone_where x lsn r p) 16 start → IsRefused x lsn r q old e → IsRefused x lsn r both start e
+  pub refused-first : (p q both : ℕ → Bool) (start old : List Frame) (e : PoolFault) → ((n : ℕ) → q n ≡ true → both n ≡ true)
+      → old ≡ each_from (redone_where x lsn r p) 16 start → IsRefused x lsn r q old e → IsRefused x lsn r both start e
   refused-first p q both start old (Full page) all before (own, there, on, full) =
       let has : has_frame start page ≡ true = sym (has-each (redone_where x lsn r p) start page) ∙ ap (λ (l : List Frame). has_frame l page) (sym before) ∙ there in
-      let is : frame_in old page ≡ redone_where x lsn r p page (frame_in start page) = ap (λ (l : List Frame). frame_in l page) before ∙ frame-each (redone_where x lsn r p) start page has in
+      let is : frame_in old page ≡ redone_where x lsn r p page (frame_in start page) = ap (λ (l : List Frame). frame_in l page) before
+      ∙ frame-each (redone_where x lsn r p) start page has in
       (own, has, all page on, λ can. full (by_test (eqb (stripe_of page) x && p page) is can))
     where
-      by_test : (b : Bool) → frame_in old page ≡ cond b (redone_frame lsn r (frame_in start page)) (frame_in start page) → CanTake lsn r (frame_in start page) → CanTake lsn r (frame_in old page)
+      by_test : (b : Bool) → frame_in old page ≡ cond b (redone_frame lsn r (frame_in start page)) (frame_in start page) → CanTake lsn r (frame_in start page)
+          → CanTake lsn r (frame_in old page)
       by_test true is can = subst (CanTake lsn r) (sym is) (frame-again lsn r (frame_in start page))
       by_test false is can = subst (CanTake lsn r) (sym is) can
   refused-first p q both start old NoMemory all before h = tt

@@ -32,19 +32,23 @@ no-value P None e = tt
 no-value P (Some v) e = cc
 
 -- the frame of a page of the stripe
-own-redone : (x page : ℕ) (records : List Record) (v : PoolView) → IsPool v → is_page v page ≡ true → stripe_of page ≡ x → frame (redone_stripe x records v) page ≡ redone_by v.pages page (numbered_after (stripe_at v x).applied records) (frame v page)
+own-redone : (x page : ℕ) (records : List Record) (v : PoolView) → IsPool v → is_page v page ≡ true → stripe_of page ≡ x
+    → frame (redone_stripe x records v) page ≡ redone_by v.pages page (numbered_after (stripe_at v x).applied records) (frame v page)
 own-redone x page records v pool on own =
     frame-redone x page records v pool on
     ∙ ap (λ (b : Bool). cond b (redone_by v.pages page (numbered_after (stripe_at v x).applied records) (frame v page)) (frame v page)) (eq-eqb (stripe_of page) x own)
 
-pub stripe-exact : (x page high : ℕ) (log records : List Record) (v : PoolView) → IsPool v → AreProper v.pages log → (stripe_at v x).applied ≤ high → high ≤ length log → records ≡ after_to (stripe_at v x).applied high log
-    → is_page v page ≡ true → stripe_of page ≡ x → (frame v page).value ≡ Some (value v.pages log (stripe_at v x).applied page) → (frame (redone_stripe x records v) page).value ≡ Some (value v.pages log high page)
+pub stripe-exact : (x page high : ℕ) (log records : List Record) (v : PoolView) → IsPool v → AreProper v.pages log → (stripe_at v x).applied ≤ high → high ≤ length log
+    → records ≡ after_to (stripe_at v x).applied high log
+    → is_page v page ≡ true → stripe_of page ≡ x → (frame v page).value ≡ Some (value v.pages log (stripe_at v x).applied page)
+    → (frame (redone_stripe x records v) page).value ≡ Some (value v.pages log high page)
 stripe-exact x page high log records v pool proper rise reach is on own start =
     let parts = and_parts (leb 16 page) (ltb page (16 + v.pages)) on in
     ap (λ (f : Frame). f.value) (own-redone x page records v pool on own)
     ∙ exact v.pages page (stripe_at v x).applied high log records (frame v page) proper (leb-true 16 page parts.0) (ltb-true page (16 + v.pages) parts.1) rise reach is start
 
-module _ (x high : ℕ) (log records : List Record) (v : PoolView) (proper : AreProper v.pages log) (rise : (stripe_at v x).applied ≤ high) (reach : high ≤ length log) (is : records ≡ after_to (stripe_at v x).applied high log) (all : AreValuesFrom x log v) where
+module _ (x high : ℕ) (log records : List Record) (v : PoolView) (proper : AreProper v.pages log) (rise : (stripe_at v x).applied ≤ high) (reach : high ≤ length log)
+    (is : records ≡ after_to (stripe_at v x).applied high log) (all : AreValuesFrom x log v) where
   pub stripe-room : (page : ℕ) → AreFitting v.pages log → IsFullBy x records v (Full page) → ⊥
   stripe-room page fitting (own, on, without) = by_value (frame v page).value refl (all page on own)
     where
@@ -52,7 +56,8 @@ module _ (x high : ℕ) (log records : List Record) (v : PoolView) (proper : Are
       by_value None e h = bare-room v.pages page (stripe_at v x).applied records (frame v page) e without
       by_value (Some w) e h =
           let parts = and_parts (leb 16 page) (ltb page (16 + v.pages)) on in
-          room v.pages page (stripe_at v x).applied high h.at log records (frame v page) proper (leb-true 16 page parts.0) (ltb-true page (16 + v.pages) parts.1) rise reach is h.low (e ∙ ap Some h.value) fitting without
+          room v.pages page (stripe_at v x).applied high h.at log records (frame v page) proper (leb-true 16 page parts.0) (ltb-true page
+          (16 + v.pages) parts.1) rise reach is h.low (e ∙ ap Some h.value) fitting without
 
   pub stripe-values : IsPool v → x < 16 → AreValuesFrom x log (redone_stripe x records v)
   stripe-values pool few page on own =
@@ -69,5 +74,6 @@ module _ (x high : ℕ) (log records : List Record) (v : PoolView) (proper : Are
       by_value (Some w) e h =
           let parts = and_parts (leb 16 page) (ltb page (16 + v.pages)) on in
           let top = h.high in
-          let after = ahead v.pages page (stripe_at v x).applied high h.at log records (frame v page) proper (leb-true 16 page parts.0) (ltb-true page (16 + v.pages) parts.1) rise reach is h.low (e ∙ ap Some h.value) in
+          let after = ahead v.pages page (stripe_at v x).applied high h.at log records (frame v page) proper (leb-true 16 page parts.0) (ltb-true page
+          (16 + v.pages) parts.1) rise reach is h.low (e ∙ ap Some h.value) in
           subst (λ (o : Option PageValue). IfSome o (IsValueFrom v.pages log high page)) (sym after) (record { at = max high h.at; low = omega arith; high = omega arith; value = refl })

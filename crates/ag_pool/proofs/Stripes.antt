@@ -15,13 +15,15 @@ use Rattle.ag_pool.proofs.Passes.{frame-each}
 pub page-there : (v : PoolView) (page : ℕ) → IsPool v → is_page v page ≡ true → has_frame v.frames page ≡ true
 page-there v page h on = ap (λ (n : ℕ). leb 16 page && ltb page (16 + n)) h.frames ∙ on
 
-pub frame-redone : (x page : ℕ) (records : List Record) (v : PoolView) → IsPool v → is_page v page ≡ true → frame (redone_stripe x records v) page ≡ redone_page x v.pages (stripe_at v x).applied records page (frame v page)
+pub frame-redone : (x page : ℕ) (records : List Record) (v : PoolView) → IsPool v → is_page v page ≡ true
+    → frame (redone_stripe x records v) page ≡ redone_page x v.pages (stripe_at v x).applied records page (frame v page)
 frame-redone x page records v h on = frame-each (redone_page x v.pages (stripe_at v x).applied records) v.frames page (page-there v page h on)
 
 pub frame-other : (x page : ℕ) (records : List Record) (v : PoolView) → IsPool v → is_page v page ≡ true → stripe_of page ≢ x → frame (redone_stripe x records v) page ≡ frame v page
 frame-other x page records v h on away =
     frame-redone x page records v h on
-    ∙ ap (λ (b : Bool). cond b (redone_by v.pages page (numbered_after (stripe_at v x).applied records) (frame v page)) (frame v page)) (false_from_ne_true (eqb (stripe_of page) x) (λ is. absurd (away (eqb-true (stripe_of page) x is))))
+    ∙ ap (λ (b : Bool). cond b (redone_by v.pages page (numbered_after (stripe_at v x).applied records) (frame v page)) (frame v page)) (false_from_ne_true (eqb
+    (stripe_of page) x) (λ is. absurd (away (eqb-true (stripe_of page) x is))))
 
 pub pool-redone : (x : ℕ) (records : List Record) (v : PoolView) → IsPool v → IsPool (redone_stripe x records v)
 pool-redone x records v h = record {
@@ -31,7 +33,8 @@ pool-redone x records v h = record {
   stripes = length-set v.stripes x _ ∙ h.stripes;
 }
 
-pub lsns-redone : (x : ℕ) (records : List Record) (v : PoolView) → IsPool v → x < 16 → stripe_at (redone_stripe x records v) x ≡ record (stripe_at v x) { applied = (stripe_at v x).applied + length records }
+pub lsns-redone : (x : ℕ) (records : List Record) (v : PoolView) → IsPool v → x < 16
+    → stripe_at (redone_stripe x records v) x ≡ record (stripe_at v x) { applied = (stripe_at v x).applied + length records }
 lsns-redone x records v h few = get_or-set_same v.stripes x _ no_stripe (omega (arith, h.stripes))
 
 pub lsns-other : (x y : ℕ) (records : List Record) (v : PoolView) → y ≢ x → stripe_at (redone_stripe x records v) y ≡ stripe_at v y

@@ -97,7 +97,8 @@ module _ (pages page lsn : ℕ) (log : List Record) (r : Record) (low : 16 ≤ p
       ap (λ (n : ℕ). value pages log n page) same ∙ sym (untouched-value pages page (lsn + 1) log r low high proper at off) ∙ ap (λ (n : ℕ). value pages log n page) m)
 
   -- redo of the record, where it touches the page
-  pub value-step : (o : Option PageValue) (k : ℕ) → lsn ≤ k → o ≡ Some (value pages log k page) → cond (touches pages page r) (redone_value (lsn + 1) r o) o ≡ Some (value pages log (max (lsn + 1) k) page)
+  pub value-step : (o : Option PageValue) (k : ℕ) → lsn ≤ k → o ≡ Some (value pages log k page)
+      → cond (touches pages page r) (redone_value (lsn + 1) r o) o ≡ Some (value pages log (max (lsn + 1) k) page)
   value-step o k above is = elim (cases_Bool (touches pages page r)) [
     | inl on ↦
         ap (λ (b : Bool). cond b (redone_value (lsn + 1) r o) o) on ∙ ap (redone_value (lsn + 1) r) is ∙ ap Some (on-step (value pages log k page) k on above refl)
@@ -121,7 +122,8 @@ get_or-other d e (r ∷ rs) zero lt = refl
 get_or-other d e (r ∷ rs) (suc i) lt = get_or-other d e rs i (omega arith)
 
 -- records that stand next in a log after an LSN, and a page that has a value of the log from there on
-module _ (pages page low high at : ℕ) (log records : List Record) (f : Frame) (proper : AreProper pages log) (data_page : 16 ≤ page) (below : page < 16 + pages) (rise : low ≤ high) (reach : high ≤ length log) (is : records ≡ after_to low high log) (above : low ≤ at) (start : f.value ≡ Some (value pages log at page)) where
+module _ (pages page low high at : ℕ) (log records : List Record) (f : Frame) (proper : AreProper pages log) (data_page : 16 ≤ page) (below : page < 16 + pages)
+    (rise : low ≤ high) (reach : high ≤ length log) (is : records ≡ after_to low high log) (above : low ≤ at) (start : f.value ≡ Some (value pages log at page)) where
   long : low + length records ≡ high
   long = omega (arith, ap length is, length-drop low (take high log), length-take high log)
 
@@ -157,23 +159,28 @@ module _ (pages page low high at : ℕ) (log records : List Record) (f : Frame) 
       let i : ℕ = length h.before in
       let lt : length h.before < length records = omega (arith, ap length h.parts, length-append h.before (h.entry ∷ h.after)) in
       let first : take (length h.before) records ≡ h.before = ap (take (length h.before)) h.parts ∙ take-append_seam h.before (h.entry ∷ h.after) in
-      let there : h.entry ≡ get_or records (length h.before) h.entry = sym (ap (λ (l : List Record). get_or l (length h.before) h.entry) h.parts ∙ get_or-append_seam h.before h.entry h.after h.entry) in
+      let there : h.entry ≡ get_or records (length h.before) h.entry = sym (ap (λ (l : List Record). get_or l (length h.before) h.entry) h.parts
+      ∙ get_or-append_seam h.before h.entry h.after h.entry) in
       let so_far = ap (λ (l : List Record). (redone_by pages page (numbered_after low l) f).value) (sym first) ∙ run (length h.before) (omega arith) in
       h.full (λ v e lt'.
       let same : Some v ≡ Some (value pages log (max (low + length h.before) at) page) = sym e ∙ so_far in
       let v_is : v ≡ value pages log (max (low + length h.before) at) page = cc in
-      room-step pages page (low + length h.before) log h.entry data_page below proper (here (length h.before) h.entry lt there) v (max (low + length h.before) at) fitting h.touched (omega arith) v_is (omega arith))
+      room-step pages page (low + length h.before) log h.entry data_page below proper (here (length h.before) h.entry lt there) v (max
+      (low + length h.before) at) fitting h.touched (omega arith) v_is (omega arith))
 
-pub exact : (pages page low high : ℕ) (log records : List Record) (f : Frame) → AreProper pages log → 16 ≤ page → page < 16 + pages → low ≤ high → high ≤ length log → records ≡ after_to low high log
+pub exact : (pages page low high : ℕ) (log records : List Record) (f : Frame) → AreProper pages log → 16 ≤ page → page < 16 + pages → low ≤ high → high ≤ length log
+    → records ≡ after_to low high log
     → f.value ≡ Some (value pages log low page) → (redone_by pages page (numbered_after low records) f).value ≡ Some (value pages log high page)
 exact pages page low high log records f proper data_page below rise reach is start =
     let m : max high low ≡ high = omega arith in
     ahead pages page low high low log records f proper data_page below rise reach is (omega arith) start ∙ ap (λ (n : ℕ). Some (value pages log n page)) m
 
 -- records that don't touch a page leave its value
-pub value-stays : (pages page low high : ℕ) (log : List Record) → AreProper pages log → 16 ≤ page → page < 16 + pages → low ≤ high → high ≤ length log → list_any (touches pages page) (after_to low high log) ≡ false → value pages log low page ≡ value pages log high page
+pub value-stays : (pages page low high : ℕ) (log : List Record) → AreProper pages log → 16 ≤ page → page < 16 + pages → low ≤ high → high ≤ length log
+    → list_any (touches pages page) (after_to low high log) ≡ false → value pages log low page ≡ value pages log high page
 value-stays pages page low high log proper data_page below rise reach off =
     let f : Frame = record { value = Some (value pages log low page); dirty = false; pending = false; held = None; came = false } in
     let stays = untouched pages page (numbered_after low (after_to low high log)) f (numbered pages page (low + 1) (after_to low high log) ∙ off) in
-    let both : Some (value pages log low page) ≡ Some (value pages log high page) = sym (ap (λ (g : Frame). g.value) stays) ∙ exact pages page low high log (after_to low high log) f proper data_page below rise reach refl refl in
+    let both : Some (value pages log low page) ≡ Some (value pages log high page) = sym (ap (λ (g : Frame). g.value) stays)
+    ∙ exact pages page low high log (after_to low high log) f proper data_page below rise reach refl refl in
     cc

@@ -42,4 +42,5 @@ loop-entry-preserved c =
 pub returns-clause-redone : goal.returns-clause-redone
 returns-clause-redone c =
     let le : length c.args.records.now ≤ c.loop-entry.entry-index = omega (arith, c.loop-entry-test.false) in
-    c.loop-entry.invariant.frames ∙ ap (λ (l : List Record). each_with_page (redone_page c.args.x c.args.pages c.args.applied l) c.args.frames.now.items) (take_all c.loop-entry.entry-index c.args.records.now le)
+    c.loop-entry.invariant.frames ∙ ap (λ (l : List Record). each_with_page (redone_page c.args.x c.args.pages c.args.applied l) c.args.frames.now.items)
+    (take_all c.loop-entry.entry-index c.args.records.now le)

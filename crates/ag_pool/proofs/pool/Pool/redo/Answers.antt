@@ -18,7 +18,8 @@ invariant_of-self-2 c = record {
   low = c.self.invariant.low;
   high = c.self.invariant.high;
   frames = c.redo_all.ensures.count ∙ c.self.invariant.frames;
-  stripes = length-map (set c.self.inside.stripes.items c.from-stripe.result _) stripe_of ∙ length-set c.self.inside.stripes.items c.from-stripe.result _ ∙ sym (length-map c.self.inside.stripes.items stripe_of) ∙ c.self.invariant.stripes;
+  stripes = length-map (set c.self.inside.stripes.items c.from-stripe.result _) stripe_of ∙ length-set c.self.inside.stripes.items c.from-stripe.result _
+      ∙ sym (length-map c.self.inside.stripes.items stripe_of) ∙ c.self.invariant.stripes;
 }
 
 pub returns-clause-redone : goal.returns-clause-redone
