@@ -4,11 +4,15 @@ use Rattle.std.specs.List.{fold}
 use Rattle.std.proofs.lemmas.List.{take_all, map-set, get_or-map}
 use Rattle.ag_rules.specs.Replica.{Stripe, least, no_stripe}
 use Rattle.ag_rules.specs.ResumeMessage.{lowered}
+use Rattle.ag_model.specs.declared.record.Record.{Record}
+use Rattle.ag_pool.specs.declared.frame.Frame.{Frame}
 use Rattle.ag_pool.specs.declared.frame.StripeLsns.{StripeLsns}
 use Rattle.ag_pool.specs.Frames.{stripe_of, lowered_lsns, at_lsn}
+use Rattle.ag_pool.specs.Redo.{each_with_page, redone_page, redone_stripe}
 
 -- a loop that writes f x over each element x
-pub each-more : {X : Type 0} (f : X → X) (xs ys : List X) (i : ℕ) (d : X) → i < length xs → ys ≡ map f (take i xs) ++ drop i xs → set ys i (f (get_or ys i d)) ≡ map f (take (i + 1) xs) ++ drop (i + 1) xs
+pub each-more : {X : Type 0} (f : X → X) (xs ys : List X) (i : ℕ) (d : X) → i < length xs → ys ≡ map f (take i xs) ++ drop i xs
+    → set ys i (f (get_or ys i d)) ≡ map f (take (i + 1) xs) ++ drop (i + 1) xs
 each-more f xs ys i d lt is =
     let e : suc i ≡ i + 1 = omega arith in
     ap (λ (l : List _). set l i (f (get_or l i d))) is ∙ step xs i lt ∙ (λ j. map f (take (e j) xs) ++ drop (e j) xs)
@@ -28,7 +32,8 @@ least-fold x [] = refl
 least-fold x (y ∷ ys) = ap (min x) (least-fold y ys) ∙ min-fold x y ys
 
 -- the least of all, from the first on
-pub least-all : (f : StripeLsns → ℕ) (xs : List StripeLsns) (i n : ℕ) (d : StripeLsns) → 0 < length xs → length xs ≤ i → n ≡ fold min (f (get_or xs 0 d)) (map f (take i xs)) → n ≡ least (map f xs)
+pub least-all : (f : StripeLsns → ℕ) (xs : List StripeLsns) (i n : ℕ) (d : StripeLsns) → 0 < length xs → length xs ≤ i
+    → n ≡ fold min (f (get_or xs 0 d)) (map f (take i xs)) → n ≡ least (map f xs)
 least-all f [] i n d some le is = absurd (omega arith)
 least-all f (x ∷ xs) i n d some le is =
     let same : min (f x) (f x) ≡ f x = omega arith in
@@ -60,6 +65,27 @@ pub publish-seen : (xs : List StripeLsns) (k x : ℕ) (r : StripeLsns) → k ≡
     → map stripe_of (set xs k (record { applied = r.applied; published = r.applied }))
     ≡ set (map stripe_of xs) x (record { applied = (get_or (map stripe_of xs) x no_stripe).applied; published = (get_or (map stripe_of xs) x no_stripe).applied })
 publish-seen xs k x r e lt is =
-    let there : stripe_of r ≡ get_or (map stripe_of xs) x no_stripe = ap stripe_of is ∙ sym (get_or-map stripe_of xs k r no_stripe lt) ∙ ap (λ (n : ℕ). get_or (map stripe_of xs) n no_stripe) e in
+    let there : stripe_of r ≡ get_or (map stripe_of xs) x no_stripe = ap stripe_of is ∙ sym (get_or-map stripe_of xs k r no_stripe lt)
+    ∙ ap (λ (n : ℕ). get_or (map stripe_of xs) n no_stripe) e in
     map-set stripe_of xs k (record { applied = r.applied; published = r.applied })
     ∙ (λ j. set (map stripe_of xs) (e j) (record { applied = (there j).applied; published = (there j).applied }))
+
+-- the LSN of a stripe, seen
+pub applied-at : (xs : List StripeLsns) (k x : ℕ) (q : StripeLsns) → k ≡ x → k < length xs → q ≡ get_or xs k q → stripe_of q ≡ get_or (map stripe_of xs) x no_stripe
+applied-at xs k x q e lt is = ap stripe_of is ∙ sym (get_or-map stripe_of xs k q no_stripe lt) ∙ ap (λ (n : ℕ). get_or (map stripe_of xs) n no_stripe) e
+
+-- a stripe that redid, seen
+pub redo-seen : (pages : ℕ) (frames new : List Frame) (xs : List StripeLsns) (records : List Record) (k x end : ℕ) (q r : StripeLsns) → k ≡ x → k < length xs
+    → q ≡ get_or xs k q → r ≡ get_or xs k r
+    → end ≡ q.applied + length records → new ≡ each_with_page (redone_page x pages q.applied records) frames
+    → record { pages = pages; frames = new; stripes = map stripe_of (set xs k (record { applied = end; published = r.published })) }
+    ≡ redone_stripe x records (record { pages = pages; frames = frames; stripes = map stripe_of xs })
+redo-seen pages frames new xs records k x end q r e lt is same far after =
+    let one = applied-at xs k x q e lt is in
+    let two = applied-at xs k x r e lt same in
+    λ i. record {
+      pages = pages;
+      frames = (after ∙ ap (λ (s : Stripe). each_with_page (redone_page x pages s.applied records) frames) one) i;
+      stripes = (map-set stripe_of xs k (record { applied = end; published = r.published })
+          ∙ (λ j. set (map stripe_of xs) (e j) (record { applied = (far ∙ ap (λ (s : Stripe). s.applied + length records) one) j; published = (two j).published }))) i;
+    }

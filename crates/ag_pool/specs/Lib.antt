@@ -1,3 +1,4 @@
 pub mod Frames
 pub mod View
 pub mod Redo
+pub mod Passes

@@ -1,11 +1,15 @@
 //! The frames of all data pages, and the LSNs of the stripes.
-ghost use Rattle.std.specs.Prelude.{◌≡◌, ◌+◌, ◌-◌, ◌<◌, ◌≤◌, Some, None, true, false, is_some, replicate, map, set, length, IfOk};
+ghost use Rattle.std.specs.Prelude.{◌≡◌, ◌+◌, ◌-◌, ◌^◌, ◌<◌, ◌≤◌, Some, None, true, false, is_some, replicate, map, set, length, IfOk, OnOk, IfErr};
 ghost use Rattle.ag_rules.specs.Replica.{least, all_at};
 ghost use Rattle.ag_rules.specs.ResumeMessage.{lowered};
 ghost use Rattle.ag_pool.specs.Frames.{empty_frame, released, not_come, forgotten, lowered_lsns, at_lsn};
-ghost use Rattle.ag_pool.specs.View.{PoolView, frame, with_frame, each_frame, stripe_at, with_stripes};
+ghost use Rattle.ag_pool.specs.Redo.{redone_stripe, IsFullBy};
+ghost use Rattle.ag_pool.specs.View.{PoolView, IsPool, frame, with_frame, each_frame, stripe_at, with_stripes};
 
+use crate::fault::PoolFault;
 use crate::frame::{Frame, Held, StripeLsns, empty_frame, lower_stripe};
+use crate::redoing::redo_all;
+use ag_model::record::Record;
 use ag_model::value::{NoMemory, PageValue};
 use std::alloc::Global;
 use std::marker::Model;
@@ -21,6 +25,7 @@ pub struct Pool {
 impl Model for Pool {
     ghost use Rattle.std.specs.Prelude.{map};
     ghost use Rattle.ag_pool.specs.Frames.{stripe_of};
+    ghost use Rattle.ag_pool.specs.Redo.{redone_stripe, IsFullBy};
     ghost use Rattle.ag_pool.specs.View.{PoolView, IsPool};
 
     ghost Value = { PoolView };
@@ -156,6 +161,7 @@ impl Pool {
         ensures answer { result ≡ self.now.pages }
         ensures low { 16 ≤ result }
         ensures high { result ≤ 2048 }
+        ensures whole { IsPool self.now }
     {
         self.pages
     }
@@ -328,5 +334,19 @@ impl Pool {
         ensures { self.new ≡ with_stripes self.old (map (lowered lsn) self.old.stripes) }
     {
         lower_stripes(&mut self.stripes, lsn);
+    }
+    /// Redoes a stripe through the records that come next after its applied LSN, on the pages that were read in.
+    /// After an error nothing is known of the pool's frames.
+    pub fn redo(&mut self, x: u8, records: &[Record]) -> Result<(), PoolFault>
+        requires stripe { x < 16 }
+        requires small { (stripe_at self.old x).applied + length records.now < 2 ^ 64 }
+        ensures redone { OnOk result (self.new ≡ redone_stripe x records.now self.old) }
+        ensures full { IfErr result (IsFullBy x records.now self.old) }
+    {
+        let stripe = usize::from(x);
+        let applied = self.stripes[stripe].applied;
+        let end = redo_all(&mut self.frames, x, self.pages, applied, records)?;
+        self.stripes[stripe].applied = end;
+        Ok(())
     }
 }

@@ -1,9 +1,11 @@
 //! Steps of a pool.
-use crate::texts::{frame_text, stripes_text};
+use crate::records;
+use crate::texts::{frame_text, stripes_text, value_text};
 use crate::words::{byte, number, numbers, page, word};
 use ag_model::list::ListOf;
+use ag_model::record::Record;
 use ag_model::value::PageValue;
-use ag_pool::{Held, Pool};
+use ag_pool::{Held, Pool, PoolFault};
 use std::alloc::{AllocError, Global};
 
 /// A page with no version, at an LSN.
@@ -64,11 +66,44 @@ fn on_all(pool: &mut Pool, step: &str, first: u64, stripe: u8) -> bool {
     true
 }
 
+/// Redoes a stripe through the records.
+fn redo(
+    alloc: Global,
+    pool: &mut Pool,
+    stripe: u8,
+    records: &[Record],
+) -> Result<String, AllocError> {
+    if stripe >= 16
+        || pool
+            .applied(stripe)
+            .checked_add(records.len() as u64)
+            .is_none()
+    {
+        return format!(in alloc; "refused");
+    }
+    match pool.redo(stripe, records) {
+        Ok(()) => { format!(in alloc; "{}/{}", pool.applied(stripe), pool.published(stripe)) }
+        Err(PoolFault::Full { page }) => format!(in alloc; "full {page}"),
+        Err(PoolFault::NoMemory) => format!(in alloc; "no memory"),
+    }
+}
+
 /// Plays a step on a pool.
-fn on_pool(alloc: Global, pool: &mut Pool, line: &str) -> Result<String, AllocError> {
+fn on_pool(
+    alloc: Global,
+    pool: &mut Pool,
+    records: &[Record],
+    line: &str,
+) -> Result<String, AllocError> {
     let numbers = numbers(alloc, line)?;
     let numbers = numbers.as_slice();
     let step = word(line, 0);
+    if step == "redo" {
+        return redo(alloc, pool, byte(numbers, 0), records);
+    }
+    if step == "value" {
+        return value_text(alloc, pool, page(numbers, 0));
+    }
     if on_all(pool, step, number(numbers, 0), byte(numbers, 0)) {
         return stripes_text(alloc, pool);
     }
@@ -80,9 +115,18 @@ fn on_pool(alloc: Global, pool: &mut Pool, line: &str) -> Result<String, AllocEr
 }
 
 /// Plays a step.
-pub fn play(alloc: Global, held: &mut Option<Pool>, line: &str) -> Result<String, AllocError> {
-    if word(line, 0) == "new" {
-        let numbers = numbers(alloc, line)?;
+pub fn play(
+    alloc: Global,
+    held: &mut Option<Pool>,
+    records: &mut Vec<Record>,
+    line: &str,
+) -> Result<String, AllocError> {
+    let step = word(line, 0);
+    let numbers = numbers(alloc, line)?;
+    if records::play(alloc, records, step, numbers.as_slice())? {
+        return format!(in alloc; "{} records", records.len());
+    }
+    if step == "new" {
         *held = made(
             alloc,
             page(numbers.as_slice(), 0),
@@ -94,7 +138,7 @@ pub fn play(alloc: Global, held: &mut Option<Pool>, line: &str) -> Result<String
         };
     }
     match held {
-        Some(pool) => on_pool(alloc, pool, line),
+        Some(pool) => on_pool(alloc, pool, records.as_slice(), line),
         None => format!(in alloc; "nothing"),
     }
 }
