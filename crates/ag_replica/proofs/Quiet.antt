@@ -21,6 +21,7 @@ use Rattle.ag_replica.specs.declared.done.Done.{Done}
 use Rattle.ag_replica.specs.Ups.{IsUp, replica_of, said_of}
 use Rattle.ag_replica.specs.Reading.{OnlyReads}
 use Rattle.ag_replica.specs.Doing.{Does, postings}
+use Rattle.ag_replica.proofs.ReadIn.{fetched-right}
 
 module _ {D : Type 0} (reads : D → Image) where
   -- what the disk keeps where it was only read
@@ -54,6 +55,34 @@ module _ {D : Type 0} (reads : D → Image) where
   pub framed-replica : (u : Up D) (p : ℕ) (f : Frame) → replica_of reads (record { durable = u.durable; pool = with_frame u.pool p f; standing = u.standing; following = u.following; leading = u.leading })
       ≡ with_page (replica_of reads u) p (mark_of f)
   framed-replica u p f = ap (λ (ps : List Page). record (replica_of reads u) { pages = ps }) (map-set mark_of u.pool.frames (p - 16) f)
+
+  -- what holds of a replica whose disk was only read
+  pub fetched-up : (ahead : Bool) (u : Up D) (w : DurableView D) → OnlyFetches reads u.durable w → IsUp reads ahead u → IsUp reads ahead (record { durable = w; pool = u.pool; standing = u.standing; following = u.following; leading = u.leading })
+  fetched-up ahead u w f h = record {
+    underway = ap (λ (p : Progress). p.came) f.progress ∙ h.underway;
+    right = fetched-right reads ahead u.durable w u.standing.state u.pool f h.right;
+  }
+
+  -- how a page stands stays as pages are read in
+  pub read-mark : (u v : Up D) (p : ℕ) → OnlyReads reads u v → IsUp reads false u → IsDataPage u.durable.master.pages p → mark_of (frame v.pool p) ≡ mark_of (frame u.pool p)
+  read-mark u v p r h is =
+      sym (mark-at false v p (r.up false h) (subst (λ (n : ℕ). IsDataPage n p) (ap (λ (m : SectorMaster). m.pages) (sym r.durable.master)) is))
+      ∙ ap (λ (x : Replica). page x p) (read-replica u v r)
+      ∙ mark-at false u p h is
+
+  -- what is done after pages were read in
+  pub does-after : (u w v : Up D) (part : Part) (done : Done) → OnlyReads reads u w → Does reads w part v done → Does reads u part v done
+  does-after u w v part done r d =
+      let same : w.durable.master.pages ≡ u.durable.master.pages = ap (λ (m : SectorMaster). m.pages) r.durable.master in
+      record {
+        reached = d.reached ∙ ap (λ (x : Reached). after_batches x part.writes) (fetched-reached u.durable w.durable r.durable);
+        pages = d.pages ∙ same;
+        disk = λ known. subst (λ (n : ℕ). IsRightDisk n (kept_of reads v.durable) (said_of reads v.durable)) same (d.disk known);
+        right = d.right;
+        after = d.after;
+        answer = d.answer;
+        out = d.out;
+      }
 
   -- a part that writes nothing is done
   pub quiet-does : (u v : Up D) (part : Part) (done : Done) → part.writes ≡ [] → reached_of reads v.durable ≡ reached_of reads u.durable → v.durable.master.pages ≡ u.durable.master.pages → IsUp reads false v
