@@ -3,3 +3,4 @@ pub mod ReadIn
 pub mod Singles
 pub mod Quiet
 pub mod Accesses
+pub mod Openings

@@ -7,6 +7,7 @@ mod done;
 mod fault;
 mod following;
 mod leading;
+mod opening;
 mod reading;
 mod site;
 mod up;
