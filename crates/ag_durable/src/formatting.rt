@@ -78,6 +78,7 @@ impl<D: Disk> Durable<D> {
         requires few { pages ≤ 2048 }
         ensures reached { IfOk result (λ v. reached_of D.reads v ≡ at_first (kept_on pages (with_master (reads_of D.reads disk) (master_of 1 0 1 pages replica)))) }
         ensures underway { IfOk result (λ v. v.progress.came ≡ Came.Underway) }
+        ensures image { IfOk result (λ v. reads_of D.reads v.disk ≡ with_master (reads_of D.reads disk) (master_of 1 0 1 pages replica)) }
         ensures master { IfOk result (λ v. v.master ≡ master_of 1 0 1 pages replica) }
         ensures log { IfOk result (λ v. v.log ≡ record { log = no_log; cut = 0; incarnation = 1; is_closed = false }) }
         ensures rows { IfOk result (λ v. v.suspects ≡ []) }

@@ -20,6 +20,7 @@ use Rattle.ag_page.specs.Home.{cells_of, found}
 use Rattle.ag_page.specs.Image.{image}
 use Rattle.ag_pagestore.specs.Places.{IsPage, place, image_of, page_cells}
 use Rattle.ag_master.specs.declared.master.Master.{Master as SectorMaster}
+use Rattle.ag_master.specs.Spelling.{spelling}
 use Rattle.ag_kept.specs.Kept.{master_of}
 use Rattle.ag_kept.specs.Starting.{with_master}
 use Rattle.ag_keeping.specs.Keeping.{cells_on, kept_on}
@@ -74,7 +75,7 @@ opening-proper pages = record {
 module _ (blank : Image) (m : SectorMaster) (zeros : (at : ℕ) → blank at ≡ Some (replicate 512 0)) where
   -- the first master leaves the sectors of pages
   zero-at : (at : ℕ) → 1 ≤ at → with_master blank m at ≡ Some (replicate 512 0)
-  zero-at at low = ap (λ (b : Bool). if b then Some _ else blank at) (ne_eqb at 0 (λ e. absurd (omega (arith, e, low)))) ∙ zeros at
+  zero-at at low = ap (λ (b : Bool). if b then Some (spelling m) else blank at) (ne_eqb at 0 (λ e. absurd (omega (arith, e, low)))) ∙ zeros at
 
   zero-sectors : (page : ℕ) → image_of (with_master blank m) page ≡ replicate 16 (Some (replicate 512 0))
   unfolding image_of

@@ -1,6 +1,5 @@
 //! The access to a page, by an act that can't go on without it.
-ghost use Rattle.std.specs.Prelude.{◌≡◌, ◌≤◌, Bool, Ok, Some, None, true, false, is_some, IfOk, IfSome, OnOk, IsErrOf};
-ghost use Rattle.ag_outside.specs.Counts.{HasRisen};
+ghost use Rattle.std.specs.Prelude.{◌≡◌, ◌≤◌, Bool, Ok, Some, None, true, false, is_some, IfOk, IfSome, OnOk};
 ghost use Rattle.ag_model.specs.Cells.{has_lost, is_lost, is_sound};
 ghost use Rattle.ag_rules.specs.Replica.{image, is_reverting};
 ghost use Rattle.ag_rules.specs.Access.{kind_of, refusal_of, access};
@@ -47,7 +46,6 @@ fn find_bad<D: Disk>(up: &mut Up<D>, page: u16) -> Result<Refusal, ReplicaFault>
     requires waits { (frame up.old.pool page).pending ≡ false }
     requires bad { is_sound (image (kept_of D.reads up.old.durable) page) ≡ false }
     ensures refuses { IfOk result (λ why. Refuses D.reads up.old page up.new why) }
-    ensures fault { IsErrOf result ReplicaFault.DiskFault → HasRisen (D.faults up.old.durable.disk.disk) (D.faults up.new.durable.disk.disk) }
 {
     if !up.durable.suspects().can_note(page) {
         up.pool.pend(page);
@@ -72,7 +70,6 @@ pub fn access<D: Disk>(
     requires page { IsDataPage up.old.durable.master.pages page }
     ensures opens { result ≡ Ok None → Opens D.reads up.old page up.new }
     ensures refuses { IfOk result (λ r. IfSome r (λ why. Refuses D.reads up.old page up.new why)) }
-    ensures fault { IsErrOf result ReplicaFault.DiskFault → HasRisen (D.faults up.old.durable.disk.disk) (D.faults up.new.durable.disk.disk) }
 {
     if up.pool.frame(page).pending {
         return Ok(Some(Refusal::Pending { page }));

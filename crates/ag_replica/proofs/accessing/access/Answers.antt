@@ -26,9 +26,6 @@ find_bad-requires-clause-waits g c =
     ap (λ m. m.pending) (read-mark g.D.Disk.reads c.args.up.now c.read_in.new.up c.args.page c.in_ok-read_in.ensures.only c.requires.up c.requires.page)
     ∙ ap (λ f. f.pending) (sym c.frame.ensures) ∙ c.if-frame.false
 
-pub returns-in_err-refusal-clause-fault : goal.returns-in_err-refusal-clause-fault
-returns-in_err-refusal-clause-fault g c = ?
-
 pub returns-clause-refuses : goal.returns-clause-refuses
 returns-clause-refuses g c = λ part.
     let reads = g.D.Disk.reads in

@@ -87,3 +87,10 @@ returns-in_ok-durable-in-Ok-clause-rows g c =
     let fits = c.first_master.ensures.fits in
     let written : reads_of d.reads c.write_first.new.disk ≡ with_master image m = c.in-Ok.ensures.written in
     ap (λ (w : DurableView _). w.suspects) c.durable.view_is ∙ e.rows ∙ ap suspects_on written ∙ first_rows image c.requires.blank.zeros m m_is fits few
+
+pub returns-in_ok-durable-in-Ok-clause-image : goal.returns-in_ok-durable-in-Ok-clause-image
+returns-in_ok-durable-in-Ok-clause-image g c =
+    let d = g.D.Disk in
+    let i = c.durable.inside in
+    let e = c.in_ok-durable-in-Ok.ensures in
+    ap (λ (w : DurableView _). reads_of d.reads w.disk) c.durable.view_is ∙ e.same ∙ c.in-Ok.ensures.written ∙ ap (with_master (reads_of d.reads c.args.disk)) c.first_master.ensures.is
