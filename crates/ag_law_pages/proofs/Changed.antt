@@ -167,6 +167,7 @@ raised pages k said state pool redo steady least clean r = record {
   where
     true_false : true ≡ false → ⊥
     true_false e = cc
+
     shown-steady : {a b : Bool} → a ≡ true → b ≡ false → (a && not b) ≡ true
     shown-steady e f = λ i. e i && not (f i)
 

@@ -22,9 +22,9 @@ pub framed : (v : PoolView) (pages : ℕ) (p : ℕ) (f : Frame) (P : ℕ → Fra
     → ((q : ℕ) → IsDataPage pages q → P q (frame v q)) → P p f → (q : ℕ) → IsDataPage pages q → P q (frame (with_frame v p f) q)
 framed v pages p f P pool count is_p each here q is_q =
     let on : (m : ℕ) → m < pages → P (m + 16) (get_or (set v.frames (p - 16) f) m empty_frame) =
-        at_set_there (λ (m : ℕ) (g : Frame). m < pages → P (m + 16) g) v.frames empty_frame (p - 16) f (omega (arith, pool.frames))
-            (λ m other lt. let e : m + 16 - 16 ≡ m = omega arith in subst (λ (n : ℕ). P (m + 16) (get_or v.frames n empty_frame)) e (each (m + 16) (omega arith, omega arith)))
-            (λ lt. let e : p ≡ p - 16 + 16 = omega arith in subst (λ (n : ℕ). P n f) e here) in
+    at_set_there (λ (m : ℕ) (g : Frame). m < pages → P (m + 16) g) v.frames empty_frame (p - 16) f (omega (arith, pool.frames))
+    (λ m other lt. let e : m + 16 - 16 ≡ m = omega arith in subst (λ (n : ℕ). P (m + 16) (get_or v.frames n empty_frame)) e (each (m + 16) (omega arith, omega arith)))
+    (λ lt. let e : p ≡ p - 16 + 16 = omega arith in subst (λ (n : ℕ). P n f) e here) in
     let e : q - 16 + 16 ≡ q = omega arith in
     subst (λ (n : ℕ). P n (get_or (set v.frames (p - 16) f) (q - 16) empty_frame)) e (on (q - 16) (omega arith))
 
@@ -68,6 +68,7 @@ module _ (ahead : Bool) (pages : ℕ) (k : Kept) (said : ℕ → Known) (state :
     where
       some_none : (w : PageValue) → Some w ≡ None → ⊥
       some_none w e = cc
+
       true_false : true ≡ false → ⊥
       true_false e = cc
 

@@ -65,7 +65,7 @@ module _ {D : Type 0} (reads : D → Image) (u : Up D) (p : ℕ) (h : IsUp reads
   waits-refuses e part =
       let same = access-pending (replica_of reads u) p part (ap (λ (m : Page). m.pending) marked ∙ e) in
       subst (λ (x : Part). Does reads u x u (record { answer = No (Pending p); out = None })) (sym same)
-          (read-does reads u u (refused (Pending p) (replica_of reads u)) (record { answer = No (Pending p); out = None }) refl h (same-reads reads u) refl refl refl)
+      (read-does reads u u (refused (Pending p) (replica_of reads u)) (record { answer = No (Pending p); out = None }) refl h (same-reads reads u) refl refl refl)
 
   -- a page that was read in is open
   pub opens-page : (v : Up D) → is_reverting u.standing.state ≡ false → (frame u.pool p).pending ≡ false → OnlyReads reads u v → is_some (frame v.pool p).value ≡ true → is_sound (image (kept_of reads u.durable) p) ≡ true → Opens reads u p v
@@ -77,12 +77,16 @@ module _ {D : Type 0} (reads : D → Image) (u : Up D) (p : ℕ) (h : IsUp reads
     where
       there : IsUp reads false v
       there = r.up false h
+
       same_pages : v.durable.master.pages ≡ u.durable.master.pages
       same_pages = ap (λ (m : SectorMaster). m.pages) r.durable.master
+
       here : IsDataPage v.durable.master.pages p
       here = subst (λ (n : ℕ). IsDataPage n p) (sym same_pages) is
+
       none_some : {w : PageValue} → None ≡ Some w → ⊥
       none_some e = cc
+
       got : (o : Option PageValue) → is_some o ≡ true → (frame v.pool p).value ≡ o → o ≡ Some (page_value u.durable.master.pages (replica_of reads u) p)
       got None some e = absurd (false_true some)
         where
@@ -91,14 +95,14 @@ module _ {D : Type 0} (reads : D → Image) (u : Up D) (p : ℕ) (h : IsUp reads
       got (Some w) some e =
           let each = there.right.each p here in
           by_bool (is_shown (kept_of reads v.durable) v.standing.state p) (λ b. is_shown (kept_of reads v.durable) v.standing.state p ≡ b → Some w ≡ Some (page_value u.durable.master.pages (replica_of reads u) p))
-              (λ _ on.
-              let held = (each.shown on).kept w e in
-              let at : held.lsn ≡ (stripe_at v.pool (stripe_of p)).applied = omega (arith, held.from, held.to) in
-              ap (λ (x : PageValue). Some x) (value-is held.value)
-              ∙ ap (λ (n : ℕ). Some (value v.durable.master.pages (kept_of reads v.durable).log.records n p)) at
-              ∙ (λ i. Some (page_value (same_pages i) (read-replica reads u v r i) p)))
-              (λ _ off. absurd (none_some (sym (each.hidden off).unread ∙ e)))
-              refl
+          (λ _ on.
+          let held = (each.shown on).kept w e in
+          let at : held.lsn ≡ (stripe_at v.pool (stripe_of p)).applied = omega (arith, held.from, held.to) in
+          ap (λ (x : PageValue). Some x) (value-is held.value)
+          ∙ ap (λ (n : ℕ). Some (value v.durable.master.pages (kept_of reads v.durable).log.records n p)) at
+          ∙ (λ i. Some (page_value (same_pages i) (read-replica reads u v r i) p)))
+          (λ _ off. absurd (none_some (sym (each.hidden off).unread ∙ e)))
+          refl
         where
           value-is : {a b : PageValue} → Value a ≡ Value b → a ≡ b
           value-is {a} {b} e = ap (value_or a) e
@@ -122,10 +126,10 @@ module _ {D : Type 0} (reads : D → Image) (u : Up D) (p : ℕ) (h : IsUp reads
       let same = access-full (replica_of reads u) p part (ap (λ (m : Page). m.pending) marked ∙ e) bad full in
       let right = right-pended false u.durable.master.pages (kept_of reads u.durable) (said_of reads u.durable) u.standing.state u.pool h.right p is bad in
       subst (λ (x : Part). Does reads u x (record { durable = u.durable; pool = pool; standing = u.standing; following = u.following; leading = u.leading }) (record { answer = No (NotNoted p); out = None })) (sym same)
-          (quiet-does reads u (record { durable = u.durable; pool = pool; standing = u.standing; following = u.following; leading = u.leading }) (at_once (No (NotNoted p)) (pended (replica_of reads u) p)) (record { answer = No (NotNoted p); out = None })
-              refl refl refl
-              (record { underway = h.underway; right = subst (λ (v : PoolView). IsRight false u.durable.master.pages (kept_of reads u.durable) (said_of reads u.durable) u.standing.state v) (sym new) right })
-              (waiting u.durable pool new) refl refl)
+      (quiet-does reads u (record { durable = u.durable; pool = pool; standing = u.standing; following = u.following; leading = u.leading }) (at_once (No (NotNoted p)) (pended (replica_of reads u) p)) (record { answer = No (NotNoted p); out = None })
+      refl refl refl
+      (record { underway = h.underway; right = subst (λ (v : PoolView). IsRight false u.durable.master.pages (kept_of reads u.durable) (said_of reads u.durable) u.standing.state v) (sym new) right })
+      (waiting u.durable pool new) refl refl)
 
   -- a bad page is noted and refuses; w is the replica once its cells were read, and v once the row was written
   pub bad-refuses : (w : DurableView D) (v : Up D) (pool : PoolView) (kind : ℕ) (why : Refusal) → OnlyFetches reads u.durable w → pool ≡ with_frame v.pool p (record (frame v.pool p) { pending = true })
@@ -138,7 +142,7 @@ module _ {D : Type 0} (reads : D → Image) (u : Up D) (p : ℕ) (h : IsUp reads
       let same_pages : v.durable.master.pages ≡ u.durable.master.pages = wrote.pages ∙ ap (λ (m : SectorMaster). m.pages) f.master in
       let was = fetched-kept reads u.durable w f in
       let kept_by : v.durable.progress.came ≡ Underway → kept_of reads v.durable ≡ batch_written (kept_of reads u.durable) (Note_write p (kind_of (image (kept_of reads u.durable) p)) ∷ []) =
-          (λ on. wrote.kept on ∙ (λ i. batch_written (was i) (Note_write p (kind_is i) ∷ []))) in
+      (λ on. wrote.kept on ∙ (λ i. batch_written (was i) (Note_write p (kind_is i) ∷ []))) in
       subst (λ (x : Part). Does reads u x (record { durable = v.durable; pool = pool; standing = v.standing; following = v.following; leading = v.leading }) (record { answer = No why; out = None })) (sym same)
       (record {
         reached = wrote.reached ∙ (λ i. after_batch (fetched-reached reads u.durable w f i) (Note_write p (kind_is i) ∷ []));

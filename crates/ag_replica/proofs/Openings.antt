@@ -120,9 +120,9 @@ module _ {D : Type 0} (reads : D → Image) (pages : ℕ) (v now : DurableView D
       let came : is_through (came_so now.progress.came now.progress (kept_of reads now)) ≡ true = ap is_through (p.reached ∙ ap (λ (r : Reached). after_batch r (Block_write (Term 1 ∷ []) ∷ [])) reached) in
       let on = underway-so now.progress.came now.progress (kept_of reads now) came in
       let images : (kept_of reads v).images ≡ replicate pages (replicate 16 (Mark 0)) =
-          (λ i. cells_on (some_pages i) (disk i)) ∙ zero-cells blank m zeros pages in
+      (λ i. cells_on (some_pages i) (disk i)) ∙ zero-cells blank m zeros pages in
       let first : kept_of reads v ≡ record { log = record { records = []; ends = [] }; master = record { term = 1; state = 0; incarnation = 1; redo_start = 1; undo = 0; foreign = [] }; suspects = []; images = replicate pages (replicate 16 (Mark 0)) } =
-          (λ i. record { log = log i; master = master i; suspects = rows i; images = images i }) in
+      (λ i. record { log = log i; master = master i; suspects = rows i; images = images i }) in
       record {
         underway = on;
         kept = kept-through reads v now (Block_write (Term 1 ∷ []) ∷ []) p underway on ∙ ap (λ (x : Kept). batch_written x (Block_write (Term 1 ∷ []) ∷ [])) first;
@@ -160,6 +160,7 @@ module _ (pages : ℕ) (said : ℕ → Known) (low : 16 ≤ pages) (high : pages
     where
       none_some : (v : PageValue) → None ≡ Some v → ⊥
       none_some v e = cc
+
       false_true : false ≡ true → ⊥
       false_true e = cc
 

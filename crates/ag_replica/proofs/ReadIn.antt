@@ -50,16 +50,16 @@ none_value v e = cc
 pub placed : (page : ℕ) (v : PageValue) → HasValue (at_place page v) → at_place page v ≡ Value (record { page = page; lsn = v.lsn; horizon = v.horizon; versions = v.versions })
 placed page v h =
     by_bool (v.page == page) (λ b. HasValue (cond b (Value v) (cond (is_zero_page v) (Value (empty_page page)) NotItsImage)) → cond b (Value v) (cond (is_zero_page v) (Value (empty_page page)) NotItsImage) ≡ Value (record { page = page; lsn = v.lsn; horizon = v.horizon; versions = v.versions }))
-        (λ here _. ap (λ (n : ℕ). Value (record { page = n; lsn = v.lsn; horizon = v.horizon; versions = v.versions })) (eqb-true v.page page here))
-        (λ _ says. by_bool (is_zero_page v) (λ b. HasValue (cond b (Value (empty_page page)) NotItsImage) → cond b (Value (empty_page page)) NotItsImage ≡ Value (record { page = page; lsn = v.lsn; horizon = v.horizon; versions = v.versions }))
-            (λ zero _.
-            let last = and_parts ((v.page == 0) && (v.lsn == 0) && (v.horizon == 0)) (is_bare v.versions) zero in
-            let third = and_parts ((v.page == 0) && (v.lsn == 0)) (v.horizon == 0) last.0 in
-            let second = and_parts (v.page == 0) (v.lsn == 0) third.0 in
-            λ i. Value (record { page = page; lsn = sym (eqb-true v.lsn 0 second.1) i; horizon = sym (eqb-true v.horizon 0 third.1) i; versions = sym (bare v.versions last.1) i }))
-            (λ _ none. absurd (none_value none.0 none.1))
-            says)
-        h
+    (λ here _. ap (λ (n : ℕ). Value (record { page = n; lsn = v.lsn; horizon = v.horizon; versions = v.versions })) (eqb-true v.page page here))
+    (λ _ says. by_bool (is_zero_page v) (λ b. HasValue (cond b (Value (empty_page page)) NotItsImage) → cond b (Value (empty_page page)) NotItsImage ≡ Value (record { page = page; lsn = v.lsn; horizon = v.horizon; versions = v.versions }))
+    (λ zero _.
+    let last = and_parts ((v.page == 0) && (v.lsn == 0) && (v.horizon == 0)) (is_bare v.versions) zero in
+    let third = and_parts ((v.page == 0) && (v.lsn == 0)) (v.horizon == 0) last.0 in
+    let second = and_parts (v.page == 0) (v.lsn == 0) third.0 in
+    λ i. Value (record { page = page; lsn = sym (eqb-true v.lsn 0 second.1) i; horizon = sym (eqb-true v.horizon 0 third.1) i; versions = sym (bare v.versions last.1) i }))
+    (λ _ none. absurd (none_value none.0 none.1))
+    says)
+    h
 
 -- a page of which memory has nothing, and whose image is sound, has a value that its image says
 pub says-value : (ahead : Bool) (pages : ℕ) (k : Kept) (said : ℕ → Known) (state : ℕ) (pool : PoolView) (page : ℕ) → IsRight ahead pages k said state pool → is_reverting state ≡ false → IsDataPage pages page
@@ -103,8 +103,8 @@ no-value (Some v) e = absurd (true_false e)
 -- values that are there stay as one more is read in
 values-stay : (v : PoolView) (page : ℕ) (f : Frame) → (frame v page).value ≡ None → (q : ℕ) (w : PageValue) → (frame v q).value ≡ Some w → (frame (with_frame v page f) q).value ≡ Some w
 values-stay v page f none q w some = elim (eqb_tells (q - 16) (page - 16)) [
-    | inl here ↦ absurd (none_some w (sym none ∙ ap (λ (n : ℕ). (get_or v.frames n empty_frame).value) (sym here.1) ∙ some))
-    | inr apart ↦ ap (λ (g : Frame). g.value) (get_or-set_other v.frames (page - 16) (q - 16) f empty_frame apart.1) ∙ some
+  | inl here ↦ absurd (none_some w (sym none ∙ ap (λ (n : ℕ). (get_or v.frames n empty_frame).value) (sym here.1) ∙ some))
+  | inr apart ↦ ap (λ (g : Frame). g.value) (get_or-set_other v.frames (page - 16) (q - 16) f empty_frame apart.1) ∙ some
 ]
   where
     none_some : (w : PageValue) → None ≡ Some w → ⊥
@@ -169,7 +169,7 @@ module _ {D : Type 0} (reads : D → Image) (u : Up D) (page : ℕ) (h : IsUpSo 
         up = λ ahead g.
             let own = g.right.disk.settled (sym g.right.kept_state ∙ steady) in
             let shown : is_shown (kept_of reads u.durable) u.standing.state page ≡ true =
-                (λ i. (sound i && not (contains page (own i))) && not (steady i)) in
+            (λ i. (sound i && not (contains page (own i))) && not (steady i)) in
             record {
               underway = ap (λ (p : Progress). p.came) f.progress ∙ g.underway;
               right = fetched-right reads ahead u.durable now u.standing.state (with_frame u.pool page (record (frame u.pool page) { value = Some w })) f

@@ -16,7 +16,6 @@ pub struct Snapshot {
 
 impl Model for Snapshot {
     ghost use Rattle.ag_rules.specs.Replica.{Snapshot as RulesSnapshot};
-
     ghost use Rattle.std.specs.Prelude.{refl};
 
     ghost Value = { RulesSnapshot };

@@ -16,7 +16,6 @@ pub struct OpenTxn {
 
 impl Model for OpenTxn {
     ghost use Rattle.ag_rules.specs.Replica.{OpenTxn as RulesOpenTxn};
-
     ghost use Rattle.std.specs.Prelude.{refl};
 
     ghost Value = { RulesOpenTxn };
@@ -40,7 +39,6 @@ pub struct Peer {
 
 impl Model for Peer {
     ghost use Rattle.ag_rules.specs.Replica.{Peer as RulesPeer};
-
     ghost use Rattle.std.specs.Prelude.{refl};
 
     ghost Value = { RulesPeer };

@@ -36,11 +36,7 @@ fn value_in(alloc: Global, page: u16, image: &Image) -> Result<PageValue, NoMemo
 
 /// Reads a page into memory, unless it is there. The answer is false where its image isn't sound. No call of the event is
 /// counted for it.
-pub fn read_in<D: Disk>(
-    alloc: Global,
-    up: &mut Up<D>,
-    page: u16,
-) -> Result<bool, ReplicaFault>
+pub fn read_in<D: Disk>(alloc: Global, up: &mut Up<D>, page: u16) -> Result<bool, ReplicaFault>
     requires up { IsUpSo D.reads up.old }
     requires steady { is_reverting up.old.standing.state ≡ false }
     requires page { IsDataPage up.old.durable.master.pages page }

@@ -16,7 +16,7 @@ returns-then-frame-clause-refuses g c =
 pub returns-then-branch-clause-opens : goal.returns-then-branch-clause-opens
 returns-then-branch-clause-opens g c = λ _.
     opens-page g.D.Disk.reads c.args.up.now c.args.page c.requires.up c.requires.page c.read_in.new.up c.requires.steady (ap (λ f. f.pending) (sym c.frame.ensures) ∙ c.if-frame.false)
-        c.in_ok-read_in.ensures.only (c.in_ok-read_in.ensures.there (ap Ok c.if-branch.true)) (sym c.in_ok-read_in.ensures.sound ∙ c.if-branch.true)
+    c.in_ok-read_in.ensures.only (c.in_ok-read_in.ensures.there (ap Ok c.if-branch.true)) (sym c.in_ok-read_in.ensures.sound ∙ c.if-branch.true)
 
 pub find_bad-requires-clause-up : goal.find_bad-requires-clause-up
 find_bad-requires-clause-up g c = c.in_ok-read_in.ensures.only.up false c.requires.up
@@ -30,5 +30,5 @@ pub returns-clause-refuses : goal.returns-clause-refuses
 returns-clause-refuses g c = λ part.
     let reads = g.D.Disk.reads in
     subst (λ (r : Replica). Does reads c.args.up.now (access r c.args.page part) c.find_bad.new.up (record { answer = No c.in_ok-refusal.refusal; out = None }))
-        (read-replica reads c.args.up.now c.read_in.new.up c.in_ok-read_in.ensures.only)
-        (does-after reads c.args.up.now c.read_in.new.up c.find_bad.new.up _ _ c.in_ok-read_in.ensures.only (c.in_ok-refusal.ensures.refuses part))
+    (read-replica reads c.args.up.now c.read_in.new.up c.in_ok-read_in.ensures.only)
+    (does-after reads c.args.up.now c.read_in.new.up c.find_bad.new.up _ _ c.in_ok-read_in.ensures.only (c.in_ok-refusal.ensures.refuses part))
