@@ -43,9 +43,13 @@ abbrev pub values_of : Items → List Data
 values_of no_items = []
 values_of (item d ds) = d ∷ values_of ds
 
--- the modes of 1 to 5 values, each of which is a mode
+-- the modes of some values, if each is the word of one
+abbrev pub each_mode : List Data → Option (List Mode)
+each_mode ds = if list_all (λ d. is_some (mode_in d)) ds then Some (filter_map mode_in ds) else None
+
+-- the modes of 1 to 5 values
 abbrev pub modes_of : List Data → Option (List Mode)
-modes_of ds = if (nat_le 1 (length ds) && nat_le (length ds) 5) && list_all (λ d. is_some (mode_in d)) ds then Some (filter_map mode_in ds) else None
+modes_of ds = if nat_le 1 (length ds) && nat_le (length ds) 5 then each_mode ds else None
 
 abbrev pub replicas_in : Data → Option (List Mode)
 replicas_in (array ds) = modes_of (values_of ds)

@@ -1,5 +1,6 @@
 //! Reading a head.
 ghost use Rattle.std.specs.Prelude.{◌≡◌, ◌⊎◌, IfOk, MatchResult, Ok, Err};
+ghost use Rattle.std.specs.List.{list_all};
 ghost use Rattle.ag_model.specs.declared.config.Config.{Config};
 ghost use Rattle.ag_rules.specs.Script.{IsConfig};
 ghost use Rattle.toml.specs.View.{table_view};
@@ -35,9 +36,7 @@ fn read_head(alloc: Global, head: &[u8]) -> Result<Config, ConfigFault>
     match toml::table_from_slice(alloc, head) {
         Ok(table) => read_table(alloc, &table),
         Err(e) if e.is_memory() => Err(ConfigFault::NoMemory),
-        Err(_) => Err(ConfigFault::BadConfig {
-            key: ConfigKey::Toml,
-        }),
+        Err(_) => Err(bad(ConfigKey::Toml)),
     }
 }
 
@@ -46,20 +45,25 @@ fn read_table(alloc: Global, table: &Table) -> Result<Config, ConfigFault>
     ensures { Answers result (config_of (table_view table.now)) }
 {
     if !has_known_keys(table) {
-        return Err(ConfigFault::BadConfig {
-            key: ConfigKey::Unknown,
-        });
+        return Err(bad(ConfigKey::Unknown));
     }
-    let pages = pages_of(table)?;
-    let modes = replicas_of(alloc, table)?;
-    let workers = workers_of(table)?;
-    let readers = readers_of(table)?;
+    let pages = pages_of(table).ok_or(bad(ConfigKey::Pages))?;
+    let modes = replicas_of(alloc, table)?.ok_or(bad(ConfigKey::Replicas))?;
+    let workers = workers_of(table).ok_or(bad(ConfigKey::Workers))?;
+    let readers = readers_of(table).ok_or(bad(ConfigKey::Readers))?;
     Ok(Config {
         pages,
         modes,
         workers,
         readers,
     })
+}
+
+/// The fault of a key.
+fn bad(key: ConfigKey) -> ConfigFault
+    ensures { result ≡ ConfigFault.BadConfig key }
+{
+    ConfigFault::BadConfig { key }
 }
 
 /// Whether each key is one that a head may have.

@@ -1,10 +1,9 @@
-//! The values of a head's keys.
-ghost use Rattle.std.specs.Prelude.{◌≡◌, IfOk, ok_or};
+//! What a document says of each key.
+ghost use Rattle.std.specs.Prelude.{◌≡◌, [], ◌∷◌, IfOk, option_map};
+ghost use Rattle.toml.specs.Data.{get_member};
 ghost use Rattle.toml.specs.View.{view, array_view, table_view};
 ghost use Rattle.ag_config.specs.Head as spec;
-ghost use Rattle.ag_config.specs.Outcomes.{Answers};
 
-use crate::fault::{ConfigFault, ConfigKey};
 use ag_model::config::{Mode, ModeList};
 use std::alloc::{AllocError, Global};
 use toml::value::Array;
@@ -13,55 +12,40 @@ use toml::{Table, Value};
 /// The most replicas of a group.
 const MAX_REPLICAS: usize = 5;
 
-/// How many pages a table asks for: 16 to 2,048, and 16 where it doesn't say.
-pub(crate) fn pages_of(table: &Table) -> Result<u16, ConfigFault>
-    ensures { result ≡ ok_or (spec.pages_of (table_view table.now)) (ConfigFault.BadConfig ConfigKey.Pages) }
+/// The number of pages: 16 to 2,048, and 16 where none is said.
+pub(crate) fn pages_of(table: &Table) -> Option<u16>
+    ensures { result ≡ spec.pages_of (table_view table.now) }
 {
-    let Some(value) = table.get("pages") else {
-        return Ok(16);
-    };
-    number_in(value, 16, 2048).ok_or(ConfigFault::BadConfig {
-        key: ConfigKey::Pages,
-    })
+    number_at(table, "pages", 16, 2048, 16)
 }
 
-/// How many workers a table asks for: 1 to 16, and 4 where it doesn't say.
-pub(crate) fn workers_of(table: &Table) -> Result<u8, ConfigFault>
-    ensures { result ≡ ok_or (spec.workers_of (table_view table.now)) (ConfigFault.BadConfig ConfigKey.Workers) }
+/// The number of workers: 1 to 16, and 4 where none is said.
+pub(crate) fn workers_of(table: &Table) -> Option<u8>
+    ensures { result ≡ spec.workers_of (table_view table.now) }
 {
-    let Some(value) = table.get("workers") else {
-        return Ok(4);
-    };
-    threads_in(value).ok_or(ConfigFault::BadConfig {
-        key: ConfigKey::Workers,
-    })
+    let workers = number_at(table, "workers", 1, 16, 4)?;
+    u8::try_from(workers).ok()
 }
 
-/// How many readers a table asks for: 1 to 16, and 2 where it doesn't say.
-pub(crate) fn readers_of(table: &Table) -> Result<u8, ConfigFault>
-    ensures { result ≡ ok_or (spec.readers_of (table_view table.now)) (ConfigFault.BadConfig ConfigKey.Readers) }
+/// The number of readers: 1 to 16, and 2 where none is said.
+pub(crate) fn readers_of(table: &Table) -> Option<u8>
+    ensures { result ≡ spec.readers_of (table_view table.now) }
 {
-    let Some(value) = table.get("readers") else {
-        return Ok(2);
-    };
-    threads_in(value).ok_or(ConfigFault::BadConfig {
-        key: ConfigKey::Readers,
-    })
+    let readers = number_at(table, "readers", 1, 16, 2)?;
+    u8::try_from(readers).ok()
 }
 
-/// The replicas that a table asks for: 1 to 5, and two synchronous ones where it doesn't say.
-pub(crate) fn replicas_of(alloc: Global, table: &Table) -> Result<ModeList, ConfigFault>
-    ensures { Answers result (ok_or (spec.replicas_of (table_view table.now)) ConfigKey.Replicas) }
+/// The mode of each replica: 1 to 5 words, and twice `sync` where none are said.
+pub(crate) fn replicas_of(alloc: Global, table: &Table) -> Result<Option<ModeList>, AllocError>
+    ensures { IfOk result (λ modes. modes ≡ spec.replicas_of (table_view table.now)) }
 {
-    let Some(value) = table.get("replicas") else {
-        return Ok(two_synchronous(alloc)?);
-    };
-    replicas_in(alloc, value)?.ok_or(ConfigFault::BadConfig {
-        key: ConfigKey::Replicas,
-    })
+    match value_at(table, "replicas") {
+        Some(value) => replicas_in(alloc, value),
+        None => Ok(Some(two_synchronous(alloc)?)),
+    }
 }
 
-/// The replicas where a table doesn't say.
+/// The modes where none are said.
 fn two_synchronous(alloc: Global) -> Result<ModeList, AllocError>
     ensures { IfOk result (λ modes. modes ≡ Mode.Sync ∷ Mode.Sync ∷ []) }
 {
@@ -69,23 +53,22 @@ fn two_synchronous(alloc: Global) -> Result<ModeList, AllocError>
     Ok(ModeList::from_vec(modes))
 }
 
-/// The modes of an array of 1 to 5 words, if it is one.
+/// The modes of an array of 1 to 5 words, if the value is one.
 fn replicas_in(alloc: Global, value: &Value) -> Result<Option<ModeList>, AllocError>
     ensures { IfOk result (λ modes. modes ≡ spec.replicas_in (view value.now)) }
 {
-    match value {
-        Value::Array(values) => modes_of(alloc, values),
+    match value.as_array() {
+        Some(values) if !values.is_empty() && values.len() <= MAX_REPLICAS => {
+            modes_of(alloc, values)
+        }
         _ => Ok(None),
     }
 }
 
-/// The modes of 1 to 5 words, if all are words of modes.
+/// The modes of some values, if each is the word of one.
 fn modes_of(alloc: Global, values: &Array) -> Result<Option<ModeList>, AllocError>
-    ensures { IfOk result (λ modes. modes ≡ spec.modes_of (spec.values_of (array_view values.now))) }
+    ensures { IfOk result (λ modes. modes ≡ spec.each_mode (spec.values_of (array_view values.now))) }
 {
-    if values.is_empty() || values.len() > MAX_REPLICAS {
-        return Ok(None);
-    }
     let mut modes = ModeList::new(alloc);
     for value in values {
         let Some(mode) = mode_in(value) else {
@@ -108,12 +91,14 @@ fn mode_in(value: &Value) -> Option<Mode>
     }
 }
 
-/// A whole number from 1 to 16.
-fn threads_in(value: &Value) -> Option<u8>
-    ensures { result ≡ spec.number_in 1 16 (view value.now) }
+/// The whole number at a key, if it lies between two bounds, both taken; or a default where the key stands nowhere.
+fn number_at(table: &Table, key: &str, low: u16, high: u16, default: u16) -> Option<u16>
+    ensures { result ≡ spec.said (spec.number_in low high) default (get_member key.now (table_view table.now)) }
 {
-    let number = number_in(value, 1, 16)?;
-    u8::try_from(number).ok()
+    match value_at(table, key) {
+        Some(value) => number_in(value, low, high),
+        None => Some(default),
+    }
 }
 
 /// A whole number between two bounds, both taken.
@@ -126,4 +111,11 @@ fn number_in(value: &Value, low: u16, high: u16) -> Option<u16>
     } else {
         None
     }
+}
+
+/// The value at a key.
+fn value_at<'a>(table: &'a Table, key: &str) -> Option<&'a Value>
+    ensures { option_map (λ value. view value.now) result ≡ get_member key.now (table_view table.now) }
+{
+    table.get(key)
 }
