@@ -1,6 +1,7 @@
 -- The modes of some values, value by value.
 use Rattle.std.specs.Prelude.{if◌then◌else◌}
-use Rattle.std.proofs.Common.{◌≡◌, ℕ, List, [], ◌∷◌, ◌++◌, Bool, true, false, Option, Some, None, option_map, is_some, map, refl, ap, append_assoc}
+use Rattle.std.proofs.Common.{◌≡◌, ℕ, List, [], ◌∷◌, ◌++◌, Bool, true, false, Option, Some, None, option_map, is_some, map, ◌+◌, ◌<◌, ◌≤◌, length, get_or, drop, refl, sym, ap, ◌∙◌, append_assoc, append-nil}
+use Rattle.std.proofs.lemmas.List.{drop_more, drop_all}
 use Rattle.std.specs.List.{list_all, filter_map}
 use Rattle.ag_model.specs.declared.config.Mode.{Mode}
 use Rattle.toml.specs.Data.{Data}
@@ -29,3 +30,23 @@ joined false modes more m = refl
 -- a value that is
 pub some_with : (modes : List Mode) (d : Data) (ds : List Data) (m : Mode) → mode_in d ≡ Some m → modes_with modes (d ∷ ds) ≡ modes_with (modes ++ m ∷ []) ds
 some_with modes d ds m e = rw e (joined (list_all (λ x. is_some (mode_in x)) ds) modes (filter_map mode_in ds) m)
+
+-- one more value of an array was the word of a mode
+pub goes_on : (vs : List Value) (i : ℕ) (v : Value) (modes : List Mode) (m : Mode) → i < length vs → v ≡ get_or vs i v → mode_in (view v) ≡ Some m
+    → each_mode (map view vs) ≡ modes_with modes (map view (drop i vs)) → each_mode (map view vs) ≡ modes_with (modes ++ m ∷ []) (map view (drop (i + 1) vs))
+goes_on vs i v modes m h is found so_far =
+    let split : drop i vs ≡ v ∷ drop (i + 1) vs = drop_more vs i v h ∙ ap (λ x. x ∷ drop (i + 1) vs) (sym is) in
+    so_far ∙ (ap (λ rest. modes_with modes (map view rest)) split ∙ some_with modes (view v) (map view (drop (i + 1) vs)) m found)
+
+-- one was no mode's word
+pub stops : (vs : List Value) (i : ℕ) (v : Value) (modes : List Mode) → i < length vs → v ≡ get_or vs i v → mode_in (view v) ≡ None
+    → each_mode (map view vs) ≡ modes_with modes (map view (drop i vs)) → None ≡ each_mode (values_of (items_view vs))
+stops vs i v modes h is found so_far =
+    let split : drop i vs ≡ v ∷ drop (i + 1) vs = drop_more vs i v h ∙ ap (λ x. x ∷ drop (i + 1) vs) (sym is) in
+    sym (ap each_mode (values_seen vs) ∙ (so_far ∙ (ap (λ rest. modes_with modes (map view rest)) split ∙ none_with modes (view v) (map view (drop (i + 1) vs)) found)))
+
+-- all were
+pub ends : (vs : List Value) (i : ℕ) (modes : List Mode) → length vs ≤ i → each_mode (map view vs) ≡ modes_with modes (map view (drop i vs)) → Some modes ≡ each_mode (values_of (items_view vs))
+ends vs i modes h so_far =
+    let all : modes_with modes (map view (drop i vs)) ≡ Some modes = rw (drop_all i vs h) (ap Some (append-nil modes)) in
+    sym (ap each_mode (values_seen vs) ∙ (so_far ∙ all))

@@ -47,10 +47,18 @@ fn read_table(alloc: Global, table: &Table) -> Result<Config, ConfigFault>
     if !has_known_keys(table) {
         return Err(bad(ConfigKey::Unknown));
     }
-    let pages = pages_of(table).ok_or(bad(ConfigKey::Pages))?;
-    let modes = replicas_of(alloc, table)?.ok_or(bad(ConfigKey::Replicas))?;
-    let workers = workers_of(table).ok_or(bad(ConfigKey::Workers))?;
-    let readers = readers_of(table).ok_or(bad(ConfigKey::Readers))?;
+    let Some(pages) = pages_of(table) else {
+        return Err(bad(ConfigKey::Pages));
+    };
+    let Some(modes) = replicas_of(alloc, table)? else {
+        return Err(bad(ConfigKey::Replicas));
+    };
+    let Some(workers) = workers_of(table) else {
+        return Err(bad(ConfigKey::Workers));
+    };
+    let Some(readers) = readers_of(table) else {
+        return Err(bad(ConfigKey::Readers));
+    };
     Ok(Config {
         pages,
         modes,
@@ -70,7 +78,12 @@ fn bad(key: ConfigKey) -> ConfigFault
 fn has_known_keys(table: &Table) -> bool
     ensures { result ≡ list_all is_known (keys_of (table_view table.now)) }
 {
-    table.keys().all(|key| is_known(key.as_str()))
+    for key in table.keys() {
+        if !is_known(key.as_str()) {
+            return false;
+        }
+    }
+    true
 }
 
 /// Whether a head may have a key.
