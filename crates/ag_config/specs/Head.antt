@@ -1,11 +1,11 @@
 -- What the head of a scenario says: a TOML document with the keys pages, replicas, workers and readers.
-use Rattle.std.specs.Prelude.{ℕ, pos, List, [], ◌∷◌, length, codes, filter_map, Bool, not, ◌&&◌, nat_le, if◌then◌else◌, Option, Some, None, is_some, is_none, unwrap_or, Result, Ok, Err}
+use Rattle.std.specs.Prelude.{ℕ, pos, List, [], ◌∷◌, length, codes, filter_map, Bool, not, ◌&&◌, nat_le, if◌then◌else◌, Option, Some, None, is_some, is_none, unwrap_or, option_and_then, Result, Ok, Err}
 use Rattle.std.specs.List.{list_all, list_any, find}
 use Rattle.std.specs.Str.{bytes_eq, is_utf8}
 use Rattle.ag_model.specs.declared.config.Config.{Config}
 use Rattle.ag_model.specs.declared.config.Mode.{Mode}
 use Rattle.ag_model.specs.declared.config.Mode.TheVariants.{Auto, Sync, Async}
-use Rattle.toml.specs.Data.{Data, string, integer, array, Items, no_items, item, Members, no_members, member, get_member}
+use Rattle.toml.specs.Data.{Data, string, integer, as_array, Items, no_items, item, Members, no_members, member, get_member}
 use Rattle.toml.specs.Parse.{parse_document}
 use Rattle.ag_config.specs.declared.fault.ConfigKey.{ConfigKey}
 use Rattle.ag_config.specs.declared.fault.ConfigKey.TheVariants.{Toml, Unknown, Pages, Replicas, Workers, Readers}
@@ -52,8 +52,7 @@ abbrev pub modes_of : List Data → Option (List Mode)
 modes_of ds = if nat_le 1 (length ds) && nat_le (length ds) 5 then each_mode ds else None
 
 abbrev pub replicas_in : Data → Option (List Mode)
-replicas_in (array ds) = modes_of (values_of ds)
-replicas_in _ = None
+replicas_in d = option_and_then (λ ds. modes_of (values_of ds)) (as_array d)
 
 -- what a key says: what is read from its value, or the default where it has none
 abbrev pub said : {X : Type 0} → (Data → Option X) → X → Option Data → Option X

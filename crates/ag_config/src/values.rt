@@ -58,15 +58,23 @@ fn replicas_in(alloc: Global, value: &Value) -> Result<Option<ModeList>, AllocEr
     ensures { IfOk result (λ modes. modes ≡ spec.replicas_in (view value.now)) }
 {
     match value.as_array() {
-        Some(values) if !values.is_empty() && values.len() <= MAX_REPLICAS => {
-            modes_of(alloc, values)
-        }
-        _ => Ok(None),
+        Some(values) => modes_of(alloc, values),
+        None => Ok(None),
     }
 }
 
-/// The modes of some values, if each is the word of one.
+/// The modes of 1 to 5 words.
 fn modes_of(alloc: Global, values: &Array) -> Result<Option<ModeList>, AllocError>
+    ensures { IfOk result (λ modes. modes ≡ spec.modes_of (spec.values_of (array_view values.now))) }
+{
+    if values.is_empty() || values.len() > MAX_REPLICAS {
+        return Ok(None);
+    }
+    each_mode(alloc, values)
+}
+
+/// The modes of some values, if each is the word of one.
+fn each_mode(alloc: Global, values: &Array) -> Result<Option<ModeList>, AllocError>
     ensures { IfOk result (λ modes. modes ≡ spec.each_mode (spec.values_of (array_view values.now))) }
 {
     let mut modes = ModeList::new(alloc);

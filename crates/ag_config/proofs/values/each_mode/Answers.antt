@@ -1,6 +1,6 @@
 use Rattle.std.proofs.Common.{◌<◌, ◌≤◌, length, arith, rules, ◌∙◌, sym}
 use Rattle.ag_config.proofs.Modes.{goes_on, stops, ends}
-use Rattle.ag_config.proofs.values.modes_of.Goals as goal
+use Rattle.ag_config.proofs.values.each_mode.Goals as goal
 
 pub returns-in_default : goal.returns-in_default
 returns-in_default c = stops c.args.values.now.items c.loop-value.value-index c.value-item.result c.loop-value.modes (search rules) (search rules) (search rules) c.loop-value.invariant
