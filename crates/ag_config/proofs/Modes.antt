@@ -1,13 +1,14 @@
 -- The modes of some values, value by value.
 use Rattle.std.specs.Prelude.{if◌then◌else◌}
-use Rattle.std.proofs.Common.{◌≡◌, ℕ, List, [], ◌∷◌, ◌++◌, Bool, true, false, Option, Some, None, option_map, is_some, map, ◌+◌, ◌<◌, ◌≤◌, length, get_or, drop, refl, sym, ap, ◌∙◌, append_assoc, append-nil}
-use Rattle.std.proofs.lemmas.List.{drop_more, drop_all}
+use Rattle.std.proofs.Common.{◌≡◌, ℕ, List, [], ◌∷◌, ◌++◌, Bool, true, false, Option, Some, None, option_map, is_some, map, ◌+◌, ◌<◌, ◌≤◌, length, get_or, drop, refl, sym, ap, ◌∙◌, append_assoc, append-nil, arith, nat_le, ◌⊎◌, inl, inr}
+use Rattle.std.proofs.lemmas.Bool.{le-leb, lt-leb}
+use Rattle.std.proofs.lemmas.List.{drop_more, drop_all, length-map}
 use Rattle.std.specs.List.{list_all, filter_map}
 use Rattle.ag_model.specs.declared.config.Mode.{Mode}
 use Rattle.toml.specs.Data.{Data}
 use Rattle.toml.specs.View.{view, items_view}
 use Rattle.toml.specs.declared.value.Value.{Value}
-use Rattle.ag_config.specs.Head.{mode_in, each_mode, values_of}
+use Rattle.ag_config.specs.Head.{mode_in, each_mode, modes_of, values_of}
 
 -- the values that an array is seen as
 pub values_seen : (vs : List Value) → values_of (items_view vs) ≡ map view vs
@@ -50,3 +51,16 @@ pub ends : (vs : List Value) (i : ℕ) (modes : List Mode) → length vs ≤ i �
 ends vs i modes h so_far =
     let all : modes_with modes (map view (drop i vs)) ≡ Some modes = rw (drop_all i vs h) (ap Some (append-nil modes)) in
     sym (ap each_mode (values_seen vs) ∙ (so_far ∙ all))
+
+-- an array is seen as many values as it has
+pub count_seen : (vs : List Value) → length (values_of (items_view vs)) ≡ length vs
+count_seen vs = ap length (values_seen vs) ∙ length-map vs view
+
+-- none or more than five
+pub not_few : (ds : List Data) → (length ds ≡ 0) ⊎ (5 < length ds) → None ≡ modes_of ds
+not_few ds (inl e) = rw e
+not_few ds (inr h) = let past : nat_le (length ds) 5 ≡ false = lt-leb (length ds) 5 h in let some : nat_le 1 (length ds) ≡ true = le-leb 1 (length ds) (omega arith) in rw (some, past)
+
+-- one to five
+pub few : (ds : List Data) → 1 ≤ length ds → length ds ≤ 5 → modes_of ds ≡ each_mode ds
+few ds h k = let within : nat_le (length ds) 5 ≡ true = le-leb (length ds) 5 k in let some : nat_le 1 (length ds) ≡ true = le-leb 1 (length ds) h in rw (some, within)
