@@ -48,8 +48,7 @@ fn repeated(alloc: Global, count: u32, text: &str) -> Result<String, AllocError>
 fn said_repeated(alloc: Global, words: &str) -> Result<String, AllocError> {
     let (count, text) = words.split_once(' ').unwrap_or((words, ""));
     let head = repeated(alloc, count.parse::<u32>().unwrap_or(0), text)?;
-    let told = said(alloc, head.as_bytes())?;
-    format!(in alloc; "{told}")
+    said(alloc, head.as_bytes())
 }
 
 /// What a head says whose bytes are given in hex.

@@ -4,9 +4,11 @@
 
 mod heads;
 
+use ag_config::laws;
 use std::io;
 
 fn main(rt: HostRuntime) -> io::Result<()> {
+    laws::example_heads();
     let alloc = rt.alloc();
     for line in rt.lines(alloc) {
         let line = line?;

@@ -1,4 +1,4 @@
-use Rattle.std.proofs.Common.{◌≡◌, ℕ, List, Result, Ok, Err, IfOk}
+use Rattle.std.proofs.Common.{ℕ, List, Result, Ok, Err, IfOk}
 use Rattle.ag_model.specs.declared.config.Config.{Config}
 use Rattle.ag_rules.specs.Script.{IsConfig}
 use Rattle.ag_config.specs.declared.fault.ConfigFault.{ConfigFault}

@@ -1,4 +1,4 @@
-use Rattle.std.proofs.Common.{◌<◌, ◌≤◌, length, arith, rules, ◌∙◌, sym}
+use Rattle.std.proofs.Common.{rules}
 use Rattle.ag_config.proofs.Modes.{goes_on, stops, ends}
 use Rattle.ag_config.proofs.values.each_mode.Goals as goal
 

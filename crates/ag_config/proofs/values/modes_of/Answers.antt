@@ -1,4 +1,4 @@
-use Rattle.std.proofs.Common.{vec_len, ◌≡◌, ◌⊎◌, ◌<◌, ◌≤◌, length, rules, arith, inl, inr, sym, ◌∙◌}
+use Rattle.std.proofs.Common.{vec_len, arith, inl, inr, sym, ◌∙◌}
 use Rattle.std.proofs.lemmas.Bool.{eqb-true, eqb-false}
 use Rattle.toml.specs.View.{array_view}
 use Rattle.ag_config.specs.Head.{values_of}
