@@ -5,7 +5,10 @@ use std::alloc::{AllocError, Global};
 
 /// A config as a line.
 fn config_text(alloc: Global, config: &Config) -> Result<String, AllocError> {
-    let mut text = format!(in alloc; "{} pages, {} workers, {} readers", config.pages, config.workers, config.readers)?;
+    let mut text = format!(in alloc;
+        "{} pages, {} workers, {} readers",
+        config.pages, config.workers, config.readers
+    )?;
     for mode in config.modes.as_slice() {
         write!(text, ", {mode:?}")?;
     }
