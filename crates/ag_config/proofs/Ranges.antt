@@ -1,6 +1,7 @@
 -- A config that a head says is in range.
 use Rattle.std.specs.Prelude.{if◌then◌else◌, nat_le}
-use Rattle.std.proofs.Common.{◌≡◌, ℕ, ◌≤◌, suc, pos, negsuc, List, [], ◌∷◌, length, Bool, true, false, not, ◌&&◌, Option, Some, None, is_none, is_some, unwrap_or, option_and_then, Ok, refl, sym, ap, subst, ◌∙◌, arith, codes}
+use Rattle.std.proofs.Common.{◌≡◌, ℕ, ◌≤◌, suc, pos, negsuc, List, [], ◌∷◌, length, Bool, true, false, not, ◌&&◌}
+use Rattle.std.proofs.Common.{Option, Some, None, is_none, is_some, unwrap_or, option_and_then, Ok, refl, sym, ap, subst, ◌∙◌, arith, codes}
 use Rattle.std.proofs.lemmas.Bool.{and_parts, leb-true}
 use Rattle.std.specs.List.{list_all, filter_map, cons_option}
 use Rattle.std.specs.Str.{is_utf8}
@@ -12,7 +13,8 @@ use Rattle.ag_rules.specs.Script.{IsConfig}
 use Rattle.toml.specs.Data.{Data, string, integer, float, boolean, datetime, array, table, Items, Members, as_array, get_member}
 use Rattle.toml.specs.Parse.{parse_document}
 use Rattle.ag_config.specs.declared.fault.ConfigKey.TheVariants.{Toml, Unknown, Pages, Replicas, Workers, Readers}
-use Rattle.ag_config.specs.Head.{number_in, mode_in, each_mode, modes_of, values_of, replicas_in, said, keys_of, is_known, pages_of, replicas_of, workers_of, readers_of, config_of, config_of_document, config_of_head}
+use Rattle.ag_config.specs.Head.{number_in, mode_in, each_mode, modes_of, values_of, replicas_in, said, keys_of}
+use Rattle.ag_config.specs.Head.{is_known, pages_of, replicas_of, workers_of, readers_of, config_of, config_of_document, config_of_head}
 
 -- a test that gave a value held
 tested : {X : Type 0} (b : Bool) (o : Option X) (x : X) → (if b then o else None) ≡ Some x → (b ≡ true) × (o ≡ Some x)

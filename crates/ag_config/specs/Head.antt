@@ -1,5 +1,6 @@
 -- What the head of a scenario says: a TOML document with the keys pages, replicas, workers and readers.
-use Rattle.std.specs.Prelude.{ℕ, pos, List, [], ◌∷◌, length, codes, filter_map, Bool, not, ◌&&◌, nat_le, if◌then◌else◌, Option, Some, None, is_some, is_none, unwrap_or, option_and_then, Result, Ok, Err}
+use Rattle.std.specs.Prelude.{ℕ, pos, List, [], ◌∷◌, length, codes, filter_map, Bool, not, ◌&&◌}
+use Rattle.std.specs.Prelude.{nat_le, if◌then◌else◌, Option, Some, None, is_some, is_none, unwrap_or, option_and_then, Result, Ok, Err}
 use Rattle.std.specs.List.{list_all, list_any, find}
 use Rattle.std.specs.Str.{bytes_eq, is_utf8}
 use Rattle.ag_model.specs.declared.config.Config.{Config}
