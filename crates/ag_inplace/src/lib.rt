@@ -1,0 +1,4 @@
+//! The image of a page, edited and read in place, without memory.
+#![tactic(auto)]
+
+mod parts;
