@@ -1,4 +1,5 @@
 //! The image of a page, edited and read in place, without memory.
 #![tactic(auto)]
 
+mod entries;
 mod parts;
