@@ -1,3 +1,5 @@
 pub mod Splices
 pub mod Sectors
 pub mod Fields
+pub mod Standing
+pub mod Listed

@@ -48,7 +48,7 @@ pub(crate) fn u64_in(i: &Image, at: usize) -> u64
 }
 
 /// How many bytes the version at a place takes.
-pub(crate) fn size_in(i: &Image, at: usize) -> usize
+pub(crate) fn size_in(i: &Image, at: usize) -> u16
     requires { IsEntry (image_bytes i.now) at }
     ensures { (w : Version) → StandsAt (image_bytes i.now) at w → result ≡ change_size w.change }
 {
@@ -56,7 +56,7 @@ pub(crate) fn size_in(i: &Image, at: usize) -> usize
     if len == DELETION {
         30
     } else {
-        30 + usize::from(len)
+        30 + len
     }
 }
 
