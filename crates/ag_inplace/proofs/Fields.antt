@@ -136,9 +136,9 @@ del-is (Put v) n is e gone =
     absurd (omega arith)
 
 -- a version has 30 bytes before its value
-pub size-least : (c : Change) → 30 ≤ change_size c
-size-least Del = omega arith
-size-least (Put v) = omega arith
+pub change-least : (c : Change) → 30 ≤ change_size c
+change-least Del = omega arith
+change-least (Put v) = omega arith
 
 -- a value that is read into zeros
 pub value-read : (n at : ℕ) (bytes out : List ℕ) → length bytes ≡ 8176 → at + n ≤ 8176 → n ≤ 64 → out ≡ take (length (take n (replicate {A = ℕ} 64 0))) (drop at bytes)

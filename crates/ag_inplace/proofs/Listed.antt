@@ -1,16 +1,24 @@
 -- The directory of a page, place by place.
-use Rattle.std.proofs.Common.{◌≡◌, ℕ, ◌+◌, ◌<◌, ◌≤◌, List, length, get_or, set, take, slice_index, refl, sym, ap, ◌∙◌, inl, inr, arith}
+use Rattle.std.proofs.Common.{◌≡◌, ℕ, zero, suc, ◌+◌, ◌<◌, ◌≤◌, List, length, get_or, set, take, slice_index, refl, sym, ap, subst, ◌∙◌, inl, inr, arith}
 use Rattle.std.specs.List.{sum_by}
 use Rattle.std.proofs.lemmas.Bool.{cases_lt}
-use Rattle.std.proofs.lemmas.List.{length-set, get_or-set_same, get_or-set_other, take_all}
+use Rattle.std.proofs.lemmas.List.{length-set, get_or-set_same, get_or-set_other, take_all, length-take}
 use Rattle.std.proofs.lemmas.List.Sums.{sum_by_more, sum_by-take-le}
 use Rattle.ag_model.specs.declared.value.Version.{Version}
 use Rattle.ag_model.specs.declared.value.Change.TheVariants.{Del}
 use Rattle.ag_model.specs.declared.value.PageValue.{PageValue}
 use Rattle.ag_model.specs.Sizes.{change_size, versions_size}
 use Rattle.ag_inplace.specs.Spelled.{Spells}
-use Rattle.ag_inplace.specs.Entries.{place_of}
+use Rattle.ag_page.proofs.Pages.{size-least}
+use Rattle.ag_inplace.specs.declared.directory.Directory.{Directory}
+use Rattle.ag_inplace.specs.Entries.{place_of, StandsAt}
+use Rattle.ag_inplace.specs.Listing.{Lists}
+use Rattle.ag_inplace.proofs.Fields.{change-least}
 use Rattle.ag_inplace.proofs.Standing.{page-room}
+
+-- some version
+abbrev pub no_version : Version
+no_version = record { lsn = 0; txn = 0; commit = 0; key = 0; change = Del }
 
 -- the places of the first versions are there
 pub record IsFilledTo (ws : List Version) (k at : ℕ) (places : List ℕ) : Type 0 where
@@ -47,6 +55,19 @@ filled-more ws k at next places d lt room e h =
       whole = length-set places (k + 1) next ∙ h.whole;
     }
 
--- some version
-abbrev pub no_version : Version
-no_version = record { lsn = 0; txn = 0; commit = 0; key = 0; change = Del }
+-- ---- what a directory says
+
+-- a directory lists at most 271 versions
+pub lists-few : (bytes : List ℕ) (d : Directory) (ws : List Version) → Lists bytes d ws → length ws ≤ 271
+lists-few bytes d ws h = few (length ws) refl
+  where
+    few : (n : ℕ) → length ws ≡ n → n ≤ 271
+    few zero e = omega arith
+    few (suc n) e =
+        let last = h.stands n no_version (omega arith) in
+        let room : place_of ws n + change_size (get_or ws n no_version).change ≤ 8176 = last.room in
+        omega (arith, size-least (take n ws), length-take n ws, change-least (get_or ws n no_version).change)
+
+-- the version of an index stands where the directory has it
+pub listed-at : (bytes : List ℕ) (d : Directory) (ws : List Version) (k at : ℕ) → Lists bytes d ws → k < length ws → at ≡ slice_index d.places k → StandsAt bytes at (get_or ws k no_version)
+listed-at bytes d ws k at h lt e = subst (λ (n : ℕ). StandsAt bytes n (get_or ws k no_version)) (sym (e ∙ h.places k (omega arith))) (h.stands k no_version lt)
