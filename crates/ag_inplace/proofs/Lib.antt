@@ -3,3 +3,4 @@ pub mod Sectors
 pub mod Fields
 pub mod Standing
 pub mod Listed
+pub mod Picked

@@ -5,3 +5,5 @@ mod directory;
 mod entries;
 mod parts;
 mod rows;
+
+pub use rows::row_in;

@@ -3,9 +3,9 @@ ghost use Rattle.std.specs.Prelude.{◌≡◌, ◌<◌, ◌≤◌, ◌==◌, ◌
 ghost use Rattle.std.specs.List.{filter};
 ghost use Rattle.ag_model.specs.declared.value.Version.{Version};
 ghost use Rattle.ag_model.specs.declared.value.PageValue.{PageValue};
-ghost use Rattle.ag_model.specs.Page.{greatest, is_before, is_committed_at, row_of};
+ghost use Rattle.ag_model.specs.Page.{greatest, is_before, is_committed_at, pick, row_of};
 ghost use Rattle.ag_page.specs.Image.{image_bytes};
-ghost use Rattle.ag_version.specs.Picking.{is_own, own_versions, row_for};
+ghost use Rattle.ag_version.specs.Picking.{own_versions, row_for};
 ghost use Rattle.ag_inplace.specs.Spelled.{Spells, IsPage};
 ghost use Rattle.ag_inplace.specs.Entries.{StandsAt, IsEntry};
 ghost use Rattle.ag_inplace.specs.Listing.{Lists, IsListed};
@@ -88,4 +88,63 @@ fn last_committed(i: &Image, d: &Directory, key: u32, snapshot: u64) -> Option<V
         }
     }
     best
+}
+
+/// The last version of a key that the reader's own transaction made, where it has one.
+fn own_version(i: &Image, d: &Directory, key: u32, own: Option<u64>) -> Option<Version>
+    requires { IsListed (image_bytes i.now) d.now }
+    ensures { (versions : List Version) → Lists (image_bytes i.now) d.now versions → option_to_list result ≡ greatest (own_versions own key versions) }
+{
+    match own {
+        Some(txn) => last_own(i, d, key, txn),
+        None => None,
+    }
+}
+
+/// The row that a change leaves.
+fn row_of(change: &Change) -> Row
+    ensures { result ≡ row_of change.now }
+{
+    match change {
+        Change::Put(value) => Row::Found(*value),
+        Change::Del => Row::Absent,
+    }
+}
+
+/// The row of a key at a snapshot.
+fn pick_in(i: &Image, d: &Directory, key: u32, snapshot: u64) -> Row
+    requires { IsListed (image_bytes i.now) d.now }
+    ensures { (v : PageValue) → Lists (image_bytes i.now) d.now v.versions → result ≡ pick v key snapshot }
+{
+    match last_committed(i, d, key, snapshot) {
+        Some(version) => row_of(&version.change),
+        None => Row::Absent,
+    }
+}
+
+/// The horizon of a page, an LSN.
+pub(crate) fn horizon_in(i: &Image) -> u64
+    requires { IsPage i.now }
+    ensures { (v : PageValue) → Spells i.now v → result ≡ v.horizon }
+{
+    u64_in(i, 12)
+}
+
+/// The row of a key at a snapshot, an LSN, as a reader sees it whose own transaction, if it has one,
+/// is not committed yet: its own versions come after all others. It is the row that the value of the
+/// page gives.
+pub fn row_in(i: &Image, key: u32, snapshot: u64, own: Option<u64>) -> Result<Row, TooOld>
+    requires { IsPage i.now }
+    ensures row { (v : PageValue) → Spells i.now v → v.horizon ≤ snapshot → result ≡ Ok (row_for v key snapshot own) }
+    ensures too_old { (v : PageValue) → Spells i.now v → snapshot < v.horizon → result ≡ Err (record { snapshot = snapshot; horizon = v.horizon }) }
+{
+    let horizon = horizon_in(i);
+    if snapshot < horizon {
+        return Err(TooOld { snapshot, horizon });
+    }
+    let d = directory_of(i);
+    match own_version(i, &d, key, own) {
+        Some(version) => Ok(row_of(&version.change)),
+        None => Ok(pick_in(i, &d, key, snapshot)),
+    }
 }
