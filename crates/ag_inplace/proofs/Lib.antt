@@ -4,3 +4,5 @@ pub mod Fields
 pub mod Standing
 pub mod Listed
 pub mod Picked
+pub mod Heads
+pub mod Stamps

@@ -6,13 +6,16 @@ use Rattle.std.proofs.lemmas.List.{take_at, drop_at, drop-drop, take-append-drop
 abbrev pub spliced : ℕ → List ℕ → List ℕ → List ℕ
 spliced at part old = take at old ++ (part ++ drop (at + length part) old)
 
+-- a part in place of another one
+pub replaced-mid : (at n : ℕ) (a b c part old : List ℕ) → old ≡ a ++ (b ++ c) → length a ≡ at → length b ≡ n → take at old ++ (part ++ drop (at + n) old) ≡ a ++ (part ++ c)
+replaced-mid at n a b c part old is la lb =
+    let front : take at old ≡ a = ap (take at) is ∙ take_at a (b ++ c) at la in
+    let back : drop (at + n) old ≡ c = ap (drop (at + n)) is ∙ sym (drop-drop n at (a ++ (b ++ c))) ∙ ap (drop n) (drop_at a (b ++ c) at la) ∙ drop_at b c n lb in
+    ap (λ (z : List ℕ). z ++ (part ++ drop (at + n) old)) front ∙ ap (λ (z : List ℕ). a ++ (part ++ z)) back
+
 -- a part is written over one that is as long
 pub splice_mid : (at : ℕ) (a b c part old : List ℕ) → old ≡ a ++ (b ++ c) → length a ≡ at → length b ≡ length part → spliced at part old ≡ a ++ (part ++ c)
-splice_mid at a b c part old is la lb =
-    let front : take at old ≡ a = ap (take at) is ∙ take_at a (b ++ c) at la in
-    let back : drop (at + length part) old ≡ c =
-    ap (drop (at + length part)) is ∙ sym (drop-drop (length part) at (a ++ (b ++ c))) ∙ ap (drop (length part)) (drop_at a (b ++ c) at la) ∙ drop_at b c (length part) lb in
-    ap (λ (z : List ℕ). z ++ (part ++ drop (at + length part) old)) front ∙ ap (λ (z : List ℕ). a ++ (part ++ z)) back
+splice_mid at a b c part old is la lb = replaced-mid at (length part) a b c part old is la lb
 
 pub length-spliced : (at : ℕ) (part old : List ℕ) → at + length part ≤ length old → length (spliced at part old) ≡ length old
 length-spliced at part old le = omega (arith, length-append (take at old) (part ++ drop (at + length part) old), length-append part (drop (at + length part) old), length-take at old, length-drop (at + length part) old)

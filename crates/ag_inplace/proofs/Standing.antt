@@ -1,20 +1,20 @@
 -- The versions of a page, each at its place.
-use Rattle.std.proofs.Common.{◌≡◌, ℕ, ◌+◌, ◌-◌, ◌<◌, ◌≤◌, ◌^◌, true, List, [], ◌∷◌, ◌++◌, length, get_or, take, drop, replicate, refl, sym, ap, ◌∙◌, append_assoc, arith}
+use Rattle.std.proofs.Common.{◌≡◌, ℕ, ◌+◌, ◌-◌, ◌<◌, ◌≤◌, ◌^◌, true, ◌&&◌, leb, List, [], ◌∷◌, ◌++◌, length, get_or, take, drop, replicate, refl, sym, ap, ◌∙◌, append_assoc, arith}
 use Rattle.std.specs.List.{flat_map, list_all, AllByRecursion}
 use Rattle.std.specs.Int.{w16, w64, byte_len, to_be_bytes}
-use Rattle.std.proofs.lemmas.Bool.{and_parts}
+use Rattle.std.proofs.lemmas.Bool.{and_parts, and_from, le-leb}
 use Rattle.std.proofs.lemmas.List.{drop_at, drop-drop, take-append-drop, drop_more, length-append, length-take}
 use Rattle.std.proofs.lemmas.List.Concat.{flat_map-append}
 use Rattle.std.proofs.lemmas.List.Sums.{sum_by-cons}
-use Rattle.ag_lists.proofs.Each.{all_at, all_take, all_drop}
+use Rattle.ag_lists.proofs.Each.{all_at, all_map, all_take}
 use Rattle.ag_model.specs.declared.value.Version.{Version}
 use Rattle.ag_model.specs.declared.value.PageValue.{PageValue}
 use Rattle.ag_model.specs.Sizes.{change_size, versions_size}
 use Rattle.ag_model.proofs.Numbers.{length-to_be_bytes}
 use Rattle.ag_page.specs.Image.{image_bytes}
-use Rattle.ag_page.specs.Spelling.{version_spelling, header, page_bytes, has_spelling, has_image, IsVersion}
+use Rattle.ag_page.specs.Spelling.{version_spelling, header, page_bytes, has_spelling, rise, IsVersion}
 use Rattle.ag_page.proofs.Fields.{length-version}
-use Rattle.ag_page.proofs.Pages.{HasImage, image_parts, size-least, length-header, length-page_bytes}
+use Rattle.ag_page.proofs.Pages.{image_parts, size-least, length-header, length-page_bytes}
 use Rattle.ag_inplace.specs.Spelled.{Spells}
 use Rattle.ag_inplace.specs.Entries.{number_in, place_of, StandsAt}
 use Rattle.ag_inplace.proofs.Fields.{number-there}
@@ -129,3 +129,19 @@ horizon-there image v h =
   where
     regroup : (a b c d e f : List ℕ) → (a ++ (b ++ (c ++ (d ++ e)))) ++ f ≡ ((a ++ b) ++ c) ++ (d ++ (e ++ f))
     regroup a b c d e f = simp append_assoc
+
+-- ---- an image with the bytes of a page value that fits
+
+are-spelled : (ws : List Version) → AllByRecursion IsSpelled ws → list_all (λ w. has_spelling w.change) ws ≡ true
+are-spelled [] h = refl
+are-spelled (w ∷ ws) h = and_from (has_spelling w.change) (list_all (λ u. has_spelling u.change) ws) (h.0).spelled (are-spelled ws h.1)
+
+pub spells-from : (image : List (List ℕ)) (v : PageValue) → AllByRecursion IsSpelled v.versions → rise v.versions ≡ true → versions_size v.versions ≤ 8144 → v.page < 2 ^ 16 → v.lsn < 2 ^ 64 → v.horizon < 2 ^ 64
+    → image_bytes image ≡ page_bytes v → Spells image v
+spells-from image v each rises room page lsn horizon is =
+    let spelled = are-spelled v.versions each in
+    record {
+      fits = and_from (list_all (λ w. has_spelling w.change) v.versions && rise v.versions) (leb (versions_size v.versions) 8144) (and_from (list_all (λ w. has_spelling w.change) v.versions) (rise v.versions) spelled rises) (le-leb (versions_size v.versions) 8144 room);
+      range = record { page = page; lsn = lsn; horizon = horizon; versions = all_map IsSpelled IsVersion (λ w h. h.range) v.versions each };
+      bytes = is;
+    }

@@ -3,7 +3,10 @@
 
 mod directory;
 mod entries;
+mod header;
 mod parts;
 mod rows;
+mod stamping;
 
 pub use rows::row_in;
+pub use stamping::stamp_in;

@@ -11,7 +11,8 @@ ghost use Rattle.ag_inplace.specs.Entries.{StandsAt, IsEntry};
 ghost use Rattle.ag_inplace.specs.Listing.{Lists, IsListed};
 
 use crate::directory::{Directory, directory_of};
-use crate::entries::{commit_in, key_in, txn_in, u64_in, version_in};
+use crate::entries::{commit_in, key_in, txn_in, version_in};
+use crate::header::horizon_in;
 use ag_model::value::{Change, Row, TooOld, Version};
 use ag_page::Image;
 
@@ -120,14 +121,6 @@ fn pick_in(i: &Image, d: &Directory, key: u32, snapshot: u64) -> Row
         Some(version) => row_of(&version.change),
         None => Row::Absent,
     }
-}
-
-/// The horizon of a page, an LSN.
-pub(crate) fn horizon_in(i: &Image) -> u64
-    requires { IsPage i.now }
-    ensures { (v : PageValue) → Spells i.now v → result ≡ v.horizon }
-{
-    u64_in(i, 12)
 }
 
 /// The row of a key at a snapshot, an LSN, as a reader sees it whose own transaction, if it has one,
