@@ -159,3 +159,8 @@ pub version-is : (lsn txn commit key : ℕ) (change : Change) (w : Version) → 
 version-is lsn txn commit key change w a b c d e =
     ap (λ (z : ℕ). made z txn commit key change) a ∙ ap (λ (z : ℕ). made w.lsn z commit key change) b ∙ ap (λ (z : ℕ). made w.lsn w.txn z key change) c
     ∙ ap (λ (z : ℕ). made w.lsn w.txn w.commit z change) d ∙ ap (made w.lsn w.txn w.commit w.key) e
+
+-- a version takes 94 bytes at most
+pub change-most : (c : Change) → has_spelling c ≡ true → change_size c ≤ 94
+change-most Del is = omega arith
+change-most (Put v) is = let p = and_parts (leb v.len 64) (are_zero (drop v.len v.bytes)) is in let small = leb-true v.len 64 p.0 in omega arith

@@ -4,5 +4,6 @@ pub mod Fields
 pub mod Standing
 pub mod Listed
 pub mod Picked
+pub mod Compacting
 pub mod Heads
 pub mod Stamps

@@ -13,7 +13,7 @@ use Rattle.ag_page.proofs.Pages.{size-least}
 use Rattle.ag_inplace.specs.declared.directory.Directory.{Directory}
 use Rattle.ag_inplace.specs.Entries.{place_of, StandsAt}
 use Rattle.ag_inplace.specs.Listing.{Lists}
-use Rattle.ag_inplace.proofs.Fields.{change-least}
+use Rattle.ag_inplace.proofs.Fields.{change-least, change-most}
 use Rattle.ag_inplace.proofs.Standing.{page-room}
 
 -- some version
@@ -71,3 +71,29 @@ lists-few bytes d ws h = few (length ws) refl
 -- the version of an index stands where the directory has it
 pub listed-at : (bytes : List ℕ) (d : Directory) (ws : List Version) (k at : ℕ) → Lists bytes d ws → k < length ws → at ≡ slice_index d.places k → StandsAt bytes at (get_or ws k no_version)
 listed-at bytes d ws k at h lt e = subst (λ (n : ℕ). StandsAt bytes n (get_or ws k no_version)) (sym (e ∙ h.places k (omega arith))) (h.stands k no_version lt)
+
+-- what the directory says of one version
+pub record ListsOne (d : Directory) (ws : List Version) (k : ℕ) : Type 0 where
+  pub here : slice_index d.places k ≡ place_of ws k
+  pub next : slice_index d.places (k + 1) ≡ place_of ws (k + 1)
+  pub size : slice_index d.places (k + 1) ≡ slice_index d.places k + change_size (get_or ws k no_version).change
+  pub short : change_size (get_or ws k no_version).change ≤ 94
+  pub room : slice_index d.places (k + 1) ≤ 8176
+  pub few : k < 271
+
+pub lists-one : (bytes : List ℕ) (d : Directory) (ws : List Version) (k : ℕ) → Lists bytes d ws → k < length ws → ListsOne d ws k
+lists-one bytes d ws k h lt =
+    let w = get_or ws k no_version in
+    let own = h.stands k no_version lt in
+    let here = h.places k (omega arith) in
+    let next = h.places (k + 1) (omega arith) in
+    let after = place-next ws k no_version lt in
+    let room : place_of ws k + change_size w.change ≤ 8176 = own.room in
+    record {
+      here = here;
+      next = next;
+      size = next ∙ after ∙ ap (λ (n : ℕ). n + change_size w.change) (sym here);
+      short = change-most w.change own.spelled;
+      room = omega (arith, next, after);
+      few = omega (arith, lists-few bytes d ws h);
+    }

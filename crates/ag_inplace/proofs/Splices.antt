@@ -48,3 +48,9 @@ read_both n k m l at bytes one two le below p q =
 -- the two pieces of a part
 pub both-pieces : (n : ℕ) (part : List ℕ) → take n part ++ take (length part - n) (drop n part) ≡ part
 both-pieces n part = ap (λ (z : List ℕ). take n part ++ z) (take_rest part n) ∙ take-append-drop n part
+
+-- a part that was moved to another place
+pub length-moved : (from size to : ℕ) (old new : List ℕ) → length old ≡ 8176 → from + size ≤ 8176 → to + size ≤ 8176 → new ≡ take to old ++ (take size (drop from old) ++ drop (to + size) old) → length new ≡ 8176
+length-moved from size to old new whole source room is =
+    let part = take size (drop from old) in
+    ap length is ∙ omega (arith, length-append (take to old) (part ++ drop (to + size) old), length-append part (drop (to + size) old), length-take to old, length-take size (drop from old), length-drop from old, length-drop (to + size) old)

@@ -1,3 +1,4 @@
 pub mod Spelled
 pub mod Entries
 pub mod Listing
+pub mod Flags

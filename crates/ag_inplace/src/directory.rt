@@ -15,8 +15,8 @@ pub(crate) struct Directory {
     pub places: [u16; 272],
 }
 
-/// Where the first version begins.
-const FRONT: u16 = 32;
+/// Where the first version of a page begins.
+pub(crate) const FRONT: u16 = 32;
 
 /// The directory of a page.
 pub(crate) fn directory_of(i: &Image) -> Directory

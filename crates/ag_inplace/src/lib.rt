@@ -4,9 +4,12 @@
 mod directory;
 mod entries;
 mod header;
+mod keeping;
+mod moving;
 mod parts;
 mod rows;
 mod stamping;
 
+pub use keeping::abort_in;
 pub use rows::row_in;
 pub use stamping::stamp_in;
