@@ -5,5 +5,6 @@ pub mod Standing
 pub mod Listed
 pub mod Picked
 pub mod Compacting
+pub mod Puts
 pub mod Heads
 pub mod Stamps

@@ -7,9 +7,11 @@ mod header;
 mod keeping;
 mod moving;
 mod parts;
+mod putting;
 mod rows;
 mod stamping;
 
 pub use keeping::abort_in;
+pub use putting::{PageFull, put_in};
 pub use rows::row_in;
 pub use stamping::stamp_in;
