@@ -1,12 +1,13 @@
 -- The fields of a version that stands at a place.
-use Rattle.std.proofs.Common.{◌≡◌, ℕ, ◌+◌, ◌-◌, ◌^◌, ◌<◌, ◌≤◌, true, leb, List, [], ◌++◌, length, take, drop, replicate, refl, sym, ap, ◌∙◌, append_assoc, arith}
+use Rattle.std.proofs.Common.{◌≡◌, ℕ, ◌+◌, ◌-◌, ◌^◌, ◌<◌, ◌≤◌, true, leb, eqb, eq-eqb, List, [], ◌++◌, length, take, drop, replicate, refl, sym, ap, ◌∙◌, append_assoc, arith}
 use Rattle.std.specs.Int.{Width, w16, w32, w64, byte_len, to_be_bytes, from_be_bytes}
-use Rattle.std.proofs.lemmas.Bool.{and_parts, leb-true}
+use Rattle.std.proofs.lemmas.Bool.{and_parts, leb-true, ne_eqb}
 use Rattle.std.proofs.lemmas.List.{take_at, drop_at, drop-drop, drop-replicate, take-append-drop, length-append, length-replicate, length-take, length-drop}
 use Rattle.ag_model.specs.declared.value.Value.{Value}
 use Rattle.ag_model.specs.declared.value.Change.{Change}
 use Rattle.ag_model.specs.declared.value.Change.TheVariants.{Put, Del}
 use Rattle.ag_model.specs.declared.value.Version.{Version}
+use Rattle.ag_model.specs.Page.{is_del}
 use Rattle.ag_model.specs.Sizes.{change_size}
 use Rattle.ag_model.proofs.Numbers.{length-to_be_bytes, front_number-written}
 use Rattle.ag_page.specs.Spelling.{change_spelling, version_spelling, has_spelling, are_zero, IsWhole}
@@ -164,3 +165,11 @@ version-is lsn txn commit key change w a b c d e =
 pub change-most : (c : Change) → has_spelling c ≡ true → change_size c ≤ 94
 change-most Del is = omega arith
 change-most (Put v) is = let p = and_parts (leb v.len 64) (are_zero (drop v.len v.bytes)) is in let small = leb-true v.len 64 p.0 in omega arith
+
+-- the length says whether a change is a deletion
+pub is_del-len : (c : Change) (n : ℕ) → has_spelling c ≡ true → n ≡ len_of c → eqb n 65535 ≡ is_del c
+is_del-len Del n is e = eq-eqb n 65535 e
+is_del-len (Put v) n is e =
+    let p = and_parts (leb v.len 64) (are_zero (drop v.len v.bytes)) is in
+    let small = leb-true v.len 64 p.0 in
+    ne_eqb n 65535 (λ z. absurd (omega arith))

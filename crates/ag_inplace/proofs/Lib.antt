@@ -6,5 +6,6 @@ pub mod Listed
 pub mod Picked
 pub mod Compacting
 pub mod Puts
-pub mod Heads
+pub mod Trims
+pub mod Headers
 pub mod Stamps

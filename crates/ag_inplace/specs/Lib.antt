@@ -2,3 +2,4 @@ pub mod Spelled
 pub mod Entries
 pub mod Listing
 pub mod Flags
+pub mod Heads

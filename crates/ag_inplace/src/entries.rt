@@ -2,6 +2,7 @@
 ghost use Rattle.std.specs.Prelude.{◌≡◌, ◌+◌, ◌≤◌, length, take, drop};
 ghost use Rattle.std.specs.Int.{w16, w32, w64};
 ghost use Rattle.ag_model.specs.declared.value.Version.{Version};
+ghost use Rattle.ag_model.specs.Page.{is_del};
 ghost use Rattle.ag_model.specs.Sizes.{change_size};
 ghost use Rattle.ag_page.specs.Image.{image_bytes};
 ghost use Rattle.ag_page.specs.Reading.{value_of};
@@ -60,6 +61,14 @@ pub(crate) fn size_in(i: &Image, at: usize) -> u16
     }
 }
 
+/// The LSN of the version at a place.
+pub(crate) fn lsn_in(i: &Image, at: usize) -> u64
+    requires { IsEntry (image_bytes i.now) at }
+    ensures { (w : Version) → StandsAt (image_bytes i.now) at w → result ≡ w.lsn }
+{
+    u64_in(i, at)
+}
+
 /// The transaction of the version at a place.
 pub(crate) fn txn_in(i: &Image, at: usize) -> u64
     requires { IsEntry (image_bytes i.now) at }
@@ -82,6 +91,14 @@ pub(crate) fn key_in(i: &Image, at: usize) -> u32
     ensures { (w : Version) → StandsAt (image_bytes i.now) at w → result ≡ w.key }
 {
     u32_in(i, at + 24)
+}
+
+/// Whether the version at a place deletes its key.
+pub(crate) fn is_del_in(i: &Image, at: usize) -> bool
+    requires { IsEntry (image_bytes i.now) at }
+    ensures { (w : Version) → StandsAt (image_bytes i.now) at w → result ≡ is_del w.change }
+{
+    u16_in(i, at + 28) == DELETION
 }
 
 /// The value of so many bytes from a place on.
@@ -117,7 +134,7 @@ pub(crate) fn version_in(i: &Image, at: usize) -> Version
     ensures { (w : Version) → StandsAt (image_bytes i.now) at w → result ≡ w }
 {
     Version {
-        lsn: u64_in(i, at),
+        lsn: lsn_in(i, at),
         txn: txn_in(i, at),
         commit: commit_in(i, at),
         key: key_in(i, at),

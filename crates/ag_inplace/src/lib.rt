@@ -10,8 +10,10 @@ mod parts;
 mod putting;
 mod rows;
 mod stamping;
+mod trimming;
 
 pub use keeping::abort_in;
 pub use putting::{PageFull, put_in};
 pub use rows::row_in;
 pub use stamping::stamp_in;
+pub use trimming::trim_in;

@@ -3,7 +3,7 @@ use Rattle.std.specs.Int.{w16, w64}
 use Rattle.ag_model.proofs.Numbers.{length-to_be_bytes}
 use Rattle.ag_page.specs.Image.{image_bytes}
 use Rattle.ag_inplace.proofs.Splices.{spliced, length-spliced}
-use Rattle.ag_inplace.proofs.Heads.{head-set}
+use Rattle.ag_inplace.proofs.Headers.{head-set}
 use Rattle.ag_inplace.proofs.header.set_header.Goals as goal
 
 pub write_part-requires-3-clause-whole : goal.write_part-requires-3-clause-whole

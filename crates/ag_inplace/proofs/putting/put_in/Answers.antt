@@ -41,12 +41,7 @@ returns-clause-ok c = λ v h.
 
 pub returns-clause-fits : goal.returns-clause-fits
 returns-clause-fits c = λ v h below.
-    let end : c.from-2.result ≡ 32 + versions_size v.versions = end-is c.directory_of-d.result v (image_bytes c.args.i.now) c.from.result c.from-2.result (c.directory_of-d.ensures v h) c.from.ensures c.from-2.ensures in
-    let room : versions_size v.versions + change_size c.args.change.now ≤ 8144 = omega (arith, c.size-need.ensures, c.if-need-free.false, c.from-free.ensures, c.from-2.ensures, page-room c.args.i.now v h) in
-    let x = new_version c.args.lsn c.args.txn c.args.key c.args.change.now in
-    let put = put-behind c.args.i.now v c.from-2.result x (image_bytes c.write_version.new.i) h end room c.write_version.ensures.bytes in
-    let count : c.directory_of-d.result.count ≡ length v.versions = (c.directory_of-d.ensures v h).count in
-    let more : length (v.versions ++ x ∷ []) ≡ c.directory_of-d.result.count + 1 = length_push v.versions x ∙ ap (λ (n : ℕ). n + 1) (sym count) in
-    put-page c.args.i.now c.set_header.new.i v c.args.lsn c.args.txn c.args.key c.args.change.now c.ranges.lsn.fits c.ranges.txn.fits c.ranges.key.fits c.requires.spelled c.write_version.ensures.change h below room
-    (put-bytes v c.args.lsn c.args.txn c.args.key c.args.change.now (image_bytes c.set_header.new.i)
-      (c.set_header.ensures.bytes v (after_change c.args.lsn c.args.txn c.args.key c.args.change.now v) _ put refl more refl (sym (c.horizon_in-horizon.ensures v h))))
+    let room : versions_size v.versions + change_size c.args.change.now ≤ 8144 =
+    (let end : c.from-2.result ≡ 32 + versions_size v.versions = end-is c.directory_of-d.result v (image_bytes c.args.i.now) c.from.result c.from-2.result (c.directory_of-d.ensures v h) c.from.ensures c.from-2.ensures in
+    omega (arith, c.size-need.ensures, c.if-need-free.false, c.from-free.ensures, c.from-2.ensures, page-room c.args.i.now v h)) in
+    put-page c.args.i.now c.set_header.new.i v c.args.lsn c.args.txn c.args.key c.args.change.now c.ranges.lsn.fits c.ranges.txn.fits c.ranges.key.fits c.requires.spelled c.write_version.ensures.change h below room (returns-clause-ok c v h)
