@@ -1,14 +1,14 @@
 -- Versions that are moved to the front of a page, one behind the other.
 use Rattle.std.proofs.Common.{◌≡◌, ℕ, ◌+◌, ◌-◌, ◌<◌, ◌≤◌, ◌^◌, Bool, true, false, not, cond, ltb, List, [], ◌∷◌, ◌++◌, length, get_or, set, take, drop, replicate, refl, sym, ap, ◌∙◌, append_assoc, arith}
-use Rattle.std.specs.List.{filter, AllByRecursion}
+use Rattle.std.specs.List.{filter}
 use Rattle.std.proofs.lemmas.Bool.{and_parts, and_from, ltb-true, lt-ltb}
 use Rattle.std.proofs.lemmas.List.{take_at, drop_at, drop-drop, take_all, take-append-drop, take-replicate, drop_all, drop_more, append-nil, replicate-append-replicate, length-append, length-take, length-drop, length-replicate}
 use Rattle.std.proofs.lemmas.List.Edits.{fill_by_more}
 use Rattle.std.proofs.lemmas.List.Concat.{flat_map-append}
 use Rattle.std.proofs.lemmas.List.Elements.{filter_more}
 use Rattle.std.proofs.lemmas.List.Filters.{sum_by-filter_both}
-use Rattle.std.proofs.lemmas.List.Sums.{sum_by_more, sum_by_push}
-use Rattle.ag_lists.proofs.Each.{all_at, all_take}
+use Rattle.std.proofs.lemmas.List.Sums.{sum_by_push}
+use Rattle.ag_lists.proofs.Each.{all_at}
 use Rattle.ag_lists.proofs.Tests.{by_bool}
 use Rattle.ag_lists.proofs.Filters.{all_filter}
 use Rattle.ag_model.specs.declared.value.Version.{Version}
@@ -21,8 +21,8 @@ use Rattle.ag_page.proofs.Pages.{image_parts, length-header}
 use Rattle.ag_inplace.specs.Spelled.{Spells}
 use Rattle.ag_inplace.specs.Entries.{place_of}
 use Rattle.ag_inplace.specs.Flags.{kept}
-use Rattle.ag_inplace.proofs.Splices.{spliced, splice_both, length-spliced}
-use Rattle.ag_inplace.proofs.Standing.{IsSpelled, spelling, length-spelling, page-spelled, page-whole, page-room, zeros_behind, spells-from}
+use Rattle.ag_inplace.proofs.Splices.{spliced, splice_both}
+use Rattle.ag_inplace.proofs.Standing.{IsSpelled, spelling, page-spelled, page-whole, page-room, zeros_behind, spells-from}
 use Rattle.ag_inplace.proofs.Listed.{place-next, place-most, no_version}
 
 -- ---- zeros
@@ -146,7 +146,7 @@ compacts-keep p image v k to count size next total d old new h lt passes long st
     ap (λ (n : ℕ). drop n new) (sym reach) ∙ sym (drop-drop gap next new) ∙ ap (drop gap) rest ∙ drop-drop gap next old ∙ ap (λ (n : ℕ). drop n old) reach in
     record {
       front = front ∙ ap (λ (z : List ℕ). z ++ sp) is.front ∙ append_assoc (header v) (spelling (filter p (take k ws))) sp
-      ∙ ap (λ (z : List ℕ). header v ++ z) (ap (λ (z : List ℕ). spelling (filter p (take k ws)) ++ z) (sym (append-nil sp)) ∙ sym (flat_map-append version_spelling (filter p (take k ws)) (w ∷ [])) ∙ ap spelling (sym more));
+          ∙ ap (λ (z : List ℕ). header v ++ z) (ap (λ (z : List ℕ). spelling (filter p (take k ws)) ++ z) (sym (append-nil sp)) ∙ sym (flat_map-append version_spelling (filter p (take k ws)) (w ∷ [])) ∙ ap spelling (sym more));
       back = back ∙ back-next image v k d old h lt is.back;
       place = omega (arith, is.place, ap versions_size more, sum_by_push (λ (x : Version). change_size x.change) (filter p (take k ws)) w);
       many = omega (arith, all, is.many, ap (λ (z : List Version). length z) more, length-append (filter p (take k ws)) (w ∷ []));

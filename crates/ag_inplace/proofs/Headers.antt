@@ -1,5 +1,5 @@
 -- The header of a page, field by field.
-use Rattle.std.proofs.Common.{◌≡◌, ℕ, ◌+◌, List, ◌++◌, length, replicate, refl, sym, ap, ◌∙◌, append_assoc, arith}
+use Rattle.std.proofs.Common.{◌≡◌, ℕ, List, ◌++◌, length, replicate, refl, sym, ap, ◌∙◌, append_assoc, arith}
 use Rattle.std.specs.Int.{w16, w64, to_be_bytes}
 use Rattle.std.proofs.lemmas.List.{length-append}
 use Rattle.ag_model.specs.declared.value.PageValue.{PageValue}

@@ -7,5 +7,7 @@ pub mod Picked
 pub mod Compacting
 pub mod Puts
 pub mod Trims
+pub mod Redoing
+pub mod Marked
 pub mod Headers
 pub mod Stamps

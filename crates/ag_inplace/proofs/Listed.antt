@@ -1,20 +1,16 @@
 -- The directory of a page, place by place.
 use Rattle.std.proofs.Common.{◌≡◌, ℕ, zero, suc, ◌+◌, ◌<◌, ◌≤◌, List, length, get_or, set, take, slice_index, refl, sym, ap, subst, ◌∙◌, inl, inr, arith}
-use Rattle.std.specs.List.{sum_by}
 use Rattle.std.proofs.lemmas.Bool.{cases_lt}
 use Rattle.std.proofs.lemmas.List.{length-set, get_or-set_same, get_or-set_other, take_all, length-take}
 use Rattle.std.proofs.lemmas.List.Sums.{sum_by_more, sum_by-take-le}
 use Rattle.ag_model.specs.declared.value.Version.{Version}
 use Rattle.ag_model.specs.declared.value.Change.TheVariants.{Del}
-use Rattle.ag_model.specs.declared.value.PageValue.{PageValue}
 use Rattle.ag_model.specs.Sizes.{change_size, versions_size}
-use Rattle.ag_inplace.specs.Spelled.{Spells}
 use Rattle.ag_page.proofs.Pages.{size-least}
 use Rattle.ag_inplace.specs.declared.directory.Directory.{Directory}
 use Rattle.ag_inplace.specs.Entries.{place_of, StandsAt}
 use Rattle.ag_inplace.specs.Listing.{Lists}
 use Rattle.ag_inplace.proofs.Fields.{change-least, change-most}
-use Rattle.ag_inplace.proofs.Standing.{page-room}
 
 -- some version
 abbrev pub no_version : Version

@@ -1,7 +1,6 @@
 -- The row of the last version.
 use Rattle.std.proofs.Common.{◌≡◌, ℕ, Bool, true, false, ◌&&◌, cond, eqb, List, [], ◌∷◌, Option, Some, None, option_to_list, refl, sym, ap, ◌∙◌}
 use Rattle.std.specs.List.{filter}
-use Rattle.ag_model.specs.declared.value.Row.{Row}
 use Rattle.ag_model.specs.declared.value.Version.{Version}
 use Rattle.ag_model.specs.declared.value.PageValue.{PageValue}
 use Rattle.ag_model.specs.Page.{greatest, is_committed_at, pick, row_of, row_of_first}

@@ -1,8 +1,8 @@
 -- The heads of versions, and what a Trim leaves by them.
-use Rattle.std.proofs.Common.{◌≡◌, ℕ, ◌+◌, ◌<◌, ◌≤◌, Bool, true, false, not, ◌||◌, List, length, get_or, map, take, refl, sym, ap, ◌∙◌, arith}
+use Rattle.std.proofs.Common.{◌≡◌, ℕ, ◌+◌, ◌<◌, ◌≤◌, Bool, false, ◌||◌, List, length, get_or, map, take, sym, ap, ◌∙◌, arith}
 use Rattle.std.specs.List.{list_any}
-use Rattle.std.proofs.lemmas.List.{length-map, get_or-map, get_or_default, take_all}
-use Rattle.std.proofs.lemmas.List.Folds.{list_any_at, list_any_more}
+use Rattle.std.proofs.lemmas.List.{length-map, get_or-map, take_all}
+use Rattle.std.proofs.lemmas.List.Folds.{list_any_more}
 use Rattle.ag_model.specs.declared.value.Version.{Version}
 use Rattle.ag_inplace.specs.declared.trimming.Head.{Head}
 use Rattle.ag_inplace.specs.Heads.{head_of}

@@ -54,11 +54,7 @@ pub(crate) fn size_in(i: &Image, at: usize) -> u16
     ensures { (w : Version) → StandsAt (image_bytes i.now) at w → result ≡ change_size w.change }
 {
     let len = u16_in(i, at + 28);
-    if len == DELETION {
-        30
-    } else {
-        30 + len
-    }
+    if len == DELETION { 30 } else { 30 + len }
 }
 
 /// The LSN of the version at a place.

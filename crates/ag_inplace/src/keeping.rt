@@ -38,12 +38,21 @@ pub(crate) fn keep_in(i: &mut Image, d: &Directory, keep: &[bool; 272], lsn: u64
     for k in 0..usize::from(d.count) {
         if keep[k] {
             let (from, end) = (d.places[k], d.places[k + 1]);
-            move_part(i, usize::from(from), usize::from(end - from), usize::from(to));
+            move_part(
+                i,
+                usize::from(from),
+                usize::from(end - from),
+                usize::from(to),
+            );
             to += end - from;
             count += 1;
         }
     }
-    clear(i, usize::from(to), usize::from(d.places[usize::from(d.count)]));
+    clear(
+        i,
+        usize::from(to),
+        usize::from(d.places[usize::from(d.count)]),
+    );
     set_header(i, count, lsn, horizon);
 }
 

@@ -5,6 +5,7 @@ mod directory;
 mod entries;
 mod header;
 mod keeping;
+pub mod laws;
 mod moving;
 mod parts;
 mod putting;

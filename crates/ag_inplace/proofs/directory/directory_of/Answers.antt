@@ -1,13 +1,9 @@
 use Rattle.std.proofs.Common.{◌≡◌, ◌∙◌, ◌+◌, ◌<◌, ◌≤◌, sym, subst, refl, length, get_or, arith, ℕ}
-use Rattle.std.proofs.lemmas.List.{get_or_default}
-use Rattle.ag_model.specs.declared.value.Version.{Version}
-use Rattle.ag_model.specs.declared.value.PageValue.{PageValue}
 use Rattle.ag_model.specs.Sizes.{change_size}
 use Rattle.ag_page.specs.Image.{image_bytes}
-use Rattle.ag_inplace.specs.Spelled.{Spells}
 use Rattle.ag_inplace.specs.Entries.{StandsAt, place_of}
 use Rattle.ag_inplace.proofs.Standing.{page-whole, page-few, count-there, stands}
-use Rattle.ag_inplace.proofs.Listed.{IsFilledTo, filled-none, filled-more, no_version}
+use Rattle.ag_inplace.proofs.Listed.{filled-none, filled-more, no_version}
 use Rattle.ag_inplace.proofs.directory.directory_of.Goals as goal
 
 pub u16_in-count-requires-clause-whole : goal.u16_in-count-requires-clause-whole

@@ -1,5 +1,4 @@
-use Rattle.std.proofs.Common.{◌∙◌, ◌≤◌, ◌+◌, ◌≡◌, refl, arith}
-use Rattle.ag_model.specs.Sizes.{change_size}
+use Rattle.std.proofs.Common.{◌∙◌, ◌≤◌, refl, arith}
 use Rattle.ag_page.specs.Image.{image_bytes}
 use Rattle.ag_inplace.proofs.Fields.{fields, size-is, put-small}
 use Rattle.ag_inplace.proofs.entries.size_in.Goals as goal

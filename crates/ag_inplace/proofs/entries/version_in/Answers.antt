@@ -1,6 +1,4 @@
-use Rattle.std.proofs.Common.{◌∙◌}
-use Rattle.ag_page.specs.Image.{image_bytes}
-use Rattle.ag_inplace.proofs.Fields.{fields, version-is}
+use Rattle.ag_inplace.proofs.Fields.{version-is}
 use Rattle.ag_inplace.proofs.entries.version_in.Goals as goal
 
 pub returns : goal.returns

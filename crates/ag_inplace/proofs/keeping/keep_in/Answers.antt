@@ -1,13 +1,11 @@
-use Rattle.std.proofs.Common.{◌≡◌, ◌∙◌, ◌<◌, ◌≤◌, ◌+◌, ◌-◌, ◌++◌, refl, sym, ap, arith, ℕ, Bool, List, length, get_or, slice_index, take, drop, replicate}
-use Rattle.ag_model.specs.declared.value.Version.{Version}
+use Rattle.std.proofs.Common.{◌≡◌, ◌∙◌, ◌<◌, ◌≤◌, ◌+◌, ◌-◌, ◌++◌, refl, sym, ap, arith, ℕ, List, length, get_or, slice_index, take, drop, replicate}
 use Rattle.ag_model.specs.Sizes.{change_size, versions_size}
 use Rattle.ag_page.specs.Image.{image_bytes, marks}
-use Rattle.ag_inplace.specs.Entries.{place_of}
 use Rattle.ag_inplace.specs.Flags.{kept}
 use Rattle.ag_inplace.proofs.Splices.{length-moved}
 use Rattle.ag_inplace.proofs.Standing.{page-whole}
-use Rattle.ag_inplace.proofs.Listed.{ListsOne, lists-one, lists-few, no_version, place-last}
-use Rattle.ag_inplace.proofs.Compacting.{Compacts, compacts-none, compacts-skip, compacts-keep, compacted, compacted-count, kept-page}
+use Rattle.ag_inplace.proofs.Listed.{lists-one, no_version, place-last}
+use Rattle.ag_inplace.proofs.Compacting.{compacts-none, compacts-skip, compacts-keep, compacted, compacted-count, kept-page}
 use Rattle.ag_inplace.proofs.keeping.keep_in.Goals as goal
 use Rattle.ag_inplace.proofs.keeping.keep_in.Goals.{then-keep-k, else-keep-k}
 

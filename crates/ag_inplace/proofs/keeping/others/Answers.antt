@@ -1,4 +1,4 @@
-use Rattle.std.proofs.Common.{◌≡◌, ◌∙◌, ◌<◌, ◌+◌, sym, ap, not, eqb, false, Bool, List, ℕ, length, get_or, set, arith}
+use Rattle.std.proofs.Common.{◌≡◌, ◌∙◌, ◌<◌, ap, not, eqb, ℕ, length, get_or, arith}
 use Rattle.std.proofs.lemmas.List.{length-set, get_or_default}
 use Rattle.ag_model.specs.declared.value.Version.{Version}
 use Rattle.ag_page.specs.Image.{image_bytes}

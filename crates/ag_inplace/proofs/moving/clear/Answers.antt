@@ -1,7 +1,7 @@
-use Rattle.std.proofs.Common.{◌≡◌, ◌∙◌, ◌+◌, ◌-◌, ◌++◌, ap, refl, sym, length, take, drop, replicate, List, ℕ, arith}
-use Rattle.std.proofs.lemmas.List.{length-replicate, length-take}
-use Rattle.ag_page.specs.Image.{image_bytes, marks}
-use Rattle.ag_inplace.proofs.Splices.{spliced, length-spliced}
+use Rattle.std.proofs.Common.{◌≡◌, ◌∙◌, ap, refl, length, take, replicate, List, ℕ, arith}
+use Rattle.std.proofs.lemmas.List.{length-replicate}
+use Rattle.ag_page.specs.Image.{image_bytes}
+use Rattle.ag_inplace.proofs.Splices.{length-spliced}
 use Rattle.ag_inplace.proofs.Compacting.{cleared-none, cleared-more, cleared-all, zeros-taken}
 use Rattle.ag_inplace.proofs.moving.clear.Goals as goal
 

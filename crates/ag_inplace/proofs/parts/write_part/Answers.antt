@@ -1,4 +1,4 @@
-use Rattle.std.proofs.Common.{◌∙◌, ◌+◌, ◌-◌, ◌≤◌, ap, length, take, drop, arith, List, ℕ}
+use Rattle.std.proofs.Common.{◌∙◌, ◌+◌, ◌-◌, ap, length, take, drop, arith, List, ℕ}
 use Rattle.std.proofs.lemmas.List.{length-take}
 use Rattle.ag_page.specs.Image.{image_bytes}
 use Rattle.ag_inplace.proofs.Splices.{spliced, splice_both, both-pieces}

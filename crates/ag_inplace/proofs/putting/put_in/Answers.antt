@@ -1,12 +1,9 @@
-use Rattle.std.proofs.Common.{◌≡◌, ◌∙◌, ◌+◌, ◌-◌, ◌<◌, ◌≤◌, ◌++◌, ◌∷◌, [], ap, refl, sym, arith, ℕ, List, length, slice_index, take, drop}
+use Rattle.std.proofs.Common.{◌≡◌, ◌∙◌, ◌+◌, ◌≤◌, ◌++◌, ◌∷◌, [], ap, refl, sym, arith, ℕ, length}
 use Rattle.std.proofs.lemmas.List.{length_push}
-use Rattle.ag_model.specs.declared.value.PageValue.{PageValue}
-use Rattle.ag_model.specs.Sizes.{change_size, versions_size, free_bytes}
+use Rattle.ag_model.specs.Sizes.{change_size, versions_size}
 use Rattle.ag_page.specs.Image.{image_bytes}
-use Rattle.ag_page.specs.Spelling.{version_spelling}
 use Rattle.ag_version.specs.Edits.{after_change, new_version}
 use Rattle.ag_inplace.proofs.Standing.{page-whole, page-room, page-few}
-use Rattle.ag_inplace.proofs.Listed.{place-last}
 use Rattle.ag_inplace.proofs.Puts.{put-behind, put-bytes, put-page, put-whole, end-is}
 use Rattle.ag_inplace.proofs.putting.put_in.Goals as goal
 

@@ -1,6 +1,4 @@
 use Rattle.std.proofs.Common.{◌≡◌, ◌∙◌, ◌+◌, ap, sym, subst, length, take, arith, ℕ}
-use Rattle.ag_model.specs.declared.value.Change.{Change}
-use Rattle.ag_model.specs.Sizes.{change_size}
 use Rattle.ag_page.specs.Image.{image_bytes}
 use Rattle.ag_page.specs.Spelling.{IsWhole}
 use Rattle.ag_page.proofs.Writes.{put_written, del_written}

@@ -1,9 +1,8 @@
-use Rattle.std.proofs.Common.{◌≡◌, ◌∙◌, ◌<◌, ◌++◌, ◌∷◌, [], ◌&&◌, sym, ap, eqb, arith, List, Bool, length, get_or, option_to_list}
+use Rattle.std.proofs.Common.{◌≡◌, ◌∙◌, ◌<◌, ◌++◌, ◌∷◌, [], ◌&&◌, sym, ap, eqb, arith, Bool, length, get_or, option_to_list}
 use Rattle.ag_model.specs.declared.value.Version.{Version}
-use Rattle.ag_model.specs.Page.{greatest, is_committed_at}
+use Rattle.ag_model.specs.Page.{greatest}
 use Rattle.ag_page.specs.Image.{image_bytes}
 use Rattle.ag_version.proofs.Greatest.{greatest_more, greatest_same}
-use Rattle.ag_inplace.specs.Listing.{Lists}
 use Rattle.ag_inplace.proofs.Listed.{listed-at, no_version}
 use Rattle.ag_inplace.proofs.rows.last_own.Goals as goal
 use Rattle.ag_inplace.proofs.rows.last_own.Goals.{then-is_own, else-is_own}

@@ -1,7 +1,7 @@
 use Rattle.std.proofs.Common.{◌≡◌, ◌&&◌, eqb, List, take, option_to_list}
 use Rattle.std.specs.List.{filter}
 use Rattle.ag_model.specs.declared.value.Version.{Version}
-use Rattle.ag_model.specs.Page.{greatest, is_committed_at}
+use Rattle.ag_model.specs.Page.{greatest}
 use Rattle.ag_page.specs.Image.{image_bytes}
 use Rattle.ag_inplace.specs.Listing.{Lists}
 use Rattle.ag_inplace.proofs.rows.last_own.Given as goal

@@ -1,5 +1,4 @@
-use Rattle.std.proofs.Common.{◌∙◌, sym, ap, None, Option, ℕ, List}
-use Rattle.ag_model.specs.declared.value.Version.{Version}
+use Rattle.std.proofs.Common.{◌∙◌, sym, ap, Option, ℕ}
 use Rattle.ag_model.specs.Page.{greatest}
 use Rattle.ag_version.specs.Picking.{own_versions}
 use Rattle.ag_inplace.proofs.Picked.{own-none}

@@ -1,6 +1,5 @@
-use Rattle.std.proofs.Common.{◌≡◌, ◌<◌, ◌≤◌, ◌∙◌, ap, arith, Ok, Err, ℕ}
+use Rattle.std.proofs.Common.{◌∙◌, ap, arith, Ok}
 use Rattle.ag_model.specs.declared.value.Row.{Row}
-use Rattle.ag_model.specs.declared.value.TooOld.{TooOld}
 use Rattle.ag_inplace.proofs.Picked.{row-own, row-other}
 use Rattle.ag_inplace.proofs.rows.row_in.Goals as goal
 

@@ -1,4 +1,4 @@
-use Rattle.std.proofs.Common.{◌≡◌, ◌∙◌, ◌<◌, ◌≤◌, refl, sym, arith, length, get_or}
+use Rattle.std.proofs.Common.{◌∙◌, ◌<◌, ◌≤◌, refl, sym, arith, length, get_or}
 use Rattle.std.proofs.lemmas.List.{length-map}
 use Rattle.ag_page.specs.Image.{image_bytes}
 use Rattle.ag_version.specs.Edits.{stamped, after_commit}
@@ -20,9 +20,10 @@ stamp_at-requires c =
     let d = c.directory_of-d.ensures v h in
     let count = d.count in
     let lt : k < length v.versions = omega (arith, c.from-k-end.ensures, c.loop-k-test.true) in
-    let is = c.loop-k.invariant.stamped v h in
-    (get_or v.versions k no_version,
-    stamped-stands c.args.lsn c.args.txn c.args.i.now v k c.from.result no_version (image_bytes c.loop-k.i) c.ranges.lsn.fits h lt (c.from.ensures ∙ d.places k (omega arith)) (stamped-whole c.args.lsn c.args.txn c.args.i.now v k (image_bytes c.loop-k.i) c.ranges.lsn.fits h is) is)
+    let is = c.loop-k.invariant.stamped v h in (
+      get_or v.versions k no_version,
+      stamped-stands c.args.lsn c.args.txn c.args.i.now v k c.from.result no_version (image_bytes c.loop-k.i) c.ranges.lsn.fits h lt (c.from.ensures ∙ d.places k (omega arith)) (stamped-whole c.args.lsn c.args.txn c.args.i.now v k (image_bytes c.loop-k.i) c.ranges.lsn.fits h is) is,
+    )
 
 pub loop-k-preserved : goal.loop-k-preserved
 loop-k-preserved c = record {

@@ -1,6 +1,5 @@
-use Rattle.std.proofs.Common.{◌≡◌, ◌∙◌, ◌<◌, ◌≤◌, ◌++◌, ◌∷◌, [], refl, sym, ap, List, length, get_or, map, take, arith, ℕ}
+use Rattle.std.proofs.Common.{◌≡◌, ◌∙◌, ◌<◌, ◌++◌, ◌∷◌, [], sym, ap, List, length, get_or, map, take, arith, ℕ}
 use Rattle.std.proofs.lemmas.List.{length-set, take_more_set, map_more, take_all}
-use Rattle.ag_model.specs.declared.value.Version.{Version}
 use Rattle.ag_page.specs.Image.{image_bytes}
 use Rattle.ag_inplace.specs.declared.trimming.Head.{Head}
 use Rattle.ag_inplace.specs.Heads.{head_of}

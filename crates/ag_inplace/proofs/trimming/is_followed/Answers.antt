@@ -1,6 +1,5 @@
-use Rattle.std.proofs.Common.{◌≡◌, ◌∙◌, ◌<◌, ◌≤◌, sym, length, get_or, arith}
+use Rattle.std.proofs.Common.{◌∙◌, sym, get_or, arith}
 use Rattle.std.proofs.lemmas.List.Folds.{list_any_at}
-use Rattle.ag_model.specs.declared.value.Version.{Version}
 use Rattle.ag_version.specs.Trimming.{follows}
 use Rattle.ag_inplace.proofs.Listed.{no_version}
 use Rattle.ag_inplace.proofs.Trims.{head-at, many-heads, none-more, none-all}

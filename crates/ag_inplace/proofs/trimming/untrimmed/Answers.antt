@@ -1,4 +1,4 @@
-use Rattle.std.proofs.Common.{◌≡◌, ◌∙◌, ◌<◌, ◌≤◌, ap, not, Bool, length, get_or, arith}
+use Rattle.std.proofs.Common.{◌∙◌, ap, not, get_or, arith}
 use Rattle.std.proofs.lemmas.List.{length-set, get_or_default}
 use Rattle.ag_model.specs.declared.value.Version.{Version}
 use Rattle.ag_model.specs.Page.{is_trimmed_at}
