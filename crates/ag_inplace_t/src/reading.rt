@@ -11,10 +11,7 @@ use std::alloc::Global;
 pub fn is_page(alloc: Global, i: &Image) -> bool
     ensures { result ≡ true → IsPage i.now }
 {
-    match from_image(alloc, i) {
-        Ok(_) => true,
-        Err(_) => false,
-    }
+    from_image(alloc, i).is_ok()
 }
 
 /// Whether all bytes are zero.
