@@ -141,3 +141,11 @@ marks-stay ss at part new count whole lt le is =
     let cut = cut-at ss q count whole (omega arith) in
     let own : mark new ≡ get_or (marks ss) q 0 = ap mark is ∙ mark-is (get_or ss q []) part (at % 511) cut.long le ∙ sym (get_or-map mark ss q [] 0 below) in
     map-set mark ss q new ∙ ap (set (marks ss) q) own ∙ set-get_or (marks ss) q 0
+
+-- ---- a part within a sector is read
+
+pub part-is : (ss : List (List ℕ)) (at n : ℕ) → length ss ≡ 16 → length (image_bytes ss) ≡ 8176 → at < 8176 → at % 511 + n ≤ 511 → take n (drop (at % 511) (get_or ss (at / 511) [])) ≡ take n (drop at (image_bytes ss))
+part-is ss at n count whole lt le =
+    let m = 511 - at % 511 in
+    let few : n ≤ m = omega arith in
+    sym (take-take n m (drop (at % 511) (get_or ss (at / 511) [])) few) ∙ ap (take n) (rest-is ss at count whole lt) ∙ take-take n m (drop at (image_bytes ss)) few

@@ -8,7 +8,7 @@ ghost use Rattle.ag_page.specs.Image.{image_bytes};
 ghost use Rattle.ag_page.specs.Reading.{value_of};
 ghost use Rattle.ag_inplace.specs.Entries.{number_in, StandsAt, IsEntry};
 
-use crate::parts::read_part;
+use crate::parts::{bytes_in, read_part};
 use ag_model::value::{Change, Value, Version};
 use ag_page::Image;
 
@@ -21,9 +21,7 @@ pub(crate) fn u16_in(i: &Image, at: usize) -> u16
     requires room { at + 2 ≤ 8176 }
     ensures { result ≡ number_in w16 (image_bytes i.now) at }
 {
-    let mut bytes = [0; 2];
-    read_part(i, at, &mut bytes);
-    u16::from_be_bytes(bytes)
+    u16::from_be_bytes(bytes_in::<2>(i, at))
 }
 
 /// The number of 4 bytes at a place.
@@ -32,9 +30,7 @@ fn u32_in(i: &Image, at: usize) -> u32
     requires room { at + 4 ≤ 8176 }
     ensures { result ≡ number_in w32 (image_bytes i.now) at }
 {
-    let mut bytes = [0; 4];
-    read_part(i, at, &mut bytes);
-    u32::from_be_bytes(bytes)
+    u32::from_be_bytes(bytes_in::<4>(i, at))
 }
 
 /// The number of 8 bytes at a place.
@@ -43,9 +39,7 @@ pub(crate) fn u64_in(i: &Image, at: usize) -> u64
     requires room { at + 8 ≤ 8176 }
     ensures { result ≡ number_in w64 (image_bytes i.now) at }
 {
-    let mut bytes = [0; 8];
-    read_part(i, at, &mut bytes);
-    u64::from_be_bytes(bytes)
+    u64::from_be_bytes(bytes_in::<8>(i, at))
 }
 
 /// How many bytes the version at a place takes.

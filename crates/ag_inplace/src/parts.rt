@@ -37,6 +37,24 @@ pub(crate) fn read_part(i: &Image, at: usize, out: &mut [u8])
     }
 }
 
+/// So many bytes of a page, from a place on.
+pub(crate) fn bytes_in<const N: usize>(i: &Image, at: usize) -> [u8; N]
+    requires whole { length (image_bytes i.now) ≡ 8176 }
+    requires some { 0 < N }
+    requires room { at + N ≤ 8176 }
+    requires short { N ≤ 511 }
+    ensures { result ≡ take N (drop at (image_bytes i.now)) }
+{
+    let mut bytes = [0; N];
+    let place = at % PART;
+    if place + N <= PART {
+        bytes.copy_from_slice(&i[at / PART][place..place + N]);
+        return bytes;
+    }
+    read_part(i, at, &mut bytes);
+    bytes
+}
+
 /// Writes a part of a sector that ends before its mark.
 fn write_at(sector: &mut [u8; 512], place: usize, part: &[u8])
     requires { place + length part.now ≤ 511 }

@@ -31,7 +31,13 @@ struct Counts {
 }
 
 /// Puts a version on, and counts.
-fn put_drawn(alloc: Global, page: &mut Page, made: Made, change: &Change, counts: &mut Counts) -> bool {
+fn put_drawn(
+    alloc: Global,
+    page: &mut Page,
+    made: Made,
+    change: &Change,
+    counts: &mut Counts,
+) -> bool {
     let (there, same) = put_both(alloc, page, made, change);
     if let Some(Err(_)) = there {
         counts.full = counts.full.saturating_add(1);
@@ -40,7 +46,14 @@ fn put_drawn(alloc: Global, page: &mut Page, made: Made, change: &Change, counts
 }
 
 /// One step of so many kinds, of which the last four are deletions, Commits, Aborts and Trims. Its LSN is given.
-fn step(alloc: Global, page: &mut Page, draws: &mut Draws, counts: &mut Counts, n: &[u64], lsn: u64) -> bool {
+fn step(
+    alloc: Global,
+    page: &mut Page,
+    draws: &mut Draws,
+    counts: &mut Counts,
+    n: &[u64],
+    lsn: u64,
+) -> bool {
     let kinds = at(n, 3);
     let left = kinds.saturating_sub(draw(draws, kinds));
     let txn = draw(draws, 5).saturating_add(1);
@@ -59,7 +72,14 @@ fn step(alloc: Global, page: &mut Page, draws: &mut Draws, counts: &mut Counts, 
 }
 
 /// Reads each key at a drawn snapshot, also as one of the transactions, and counts.
-fn read_rows(alloc: Global, page: &Page, draws: &mut Draws, counts: &mut Counts, keys: u64, lsn: u64) {
+fn read_rows(
+    alloc: Global,
+    page: &Page,
+    draws: &mut Draws,
+    counts: &mut Counts,
+    keys: u64,
+    lsn: u64,
+) {
     for key in 0..keys {
         let snapshot = draw(draws, lsn.saturating_add(1));
         let own = draw(draws, 6);

@@ -16,7 +16,12 @@ pub struct Made {
 }
 
 /// The answer in place, where the image is a page.
-fn put_there(alloc: Global, i: &mut Image, made: Made, change: &Change) -> Option<Result<(), PageFull>> {
+fn put_there(
+    alloc: Global,
+    i: &mut Image,
+    made: Made,
+    change: &Change,
+) -> Option<Result<(), PageFull>> {
     if is_page(alloc, i) && is_spelled(change) {
         Some(put_in(i, made.lsn, made.txn, made.key, change))
     } else {
@@ -36,7 +41,12 @@ fn agree(by_value: &Result<(), PutFault>, there: &Option<Result<(), PageFull>>) 
 }
 
 /// Puts a version on. The answer in place, and whether all is the same both ways.
-pub fn put_both(alloc: Global, page: &mut Page, made: Made, change: &Change) -> (Option<Result<(), PageFull>>, bool) {
+pub fn put_both(
+    alloc: Global,
+    page: &mut Page,
+    made: Made,
+    change: &Change,
+) -> (Option<Result<(), PageFull>>, bool) {
     let there = put_there(alloc, &mut page.image, made, change);
     let by_value = put(&mut page.value, made.lsn, made.txn, made.key, change);
     let same = agree(&by_value, &there) && is_same(page);
@@ -71,7 +81,13 @@ pub fn trim_both(alloc: Global, page: &mut Page, lsn: u64, horizon: u64) -> bool
 }
 
 /// The row of a key at a snapshot, read in place, and whether it is the same both ways.
-pub fn row_both(alloc: Global, page: &Page, key: u32, snapshot: u64, own: Option<u64>) -> (Option<Result<Row, TooOld>>, bool) {
+pub fn row_both(
+    alloc: Global,
+    page: &Page,
+    key: u32,
+    snapshot: u64,
+    own: Option<u64>,
+) -> (Option<Result<Row, TooOld>>, bool) {
     if !is_page(alloc, &page.image) {
         return (None, false);
     }

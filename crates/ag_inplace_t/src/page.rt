@@ -41,5 +41,8 @@ pub fn is_same(page: &Page) -> bool {
     }
     let mut made = [[0; 512]; 16];
     to_image(&page.value, MARK, &mut made);
-    page.image.iter().zip(made.iter()).all(|(a, b)| are_same(a, b))
+    page.image
+        .iter()
+        .zip(made.iter())
+        .all(|(a, b)| are_same(a, b))
 }

@@ -1,9 +1,9 @@
 //! How a line is played.
 use crate::building::put_of;
+use crate::drawing;
 use crate::edits::{Made, abort_both, put_both, row_both, stamp_both, trim_both};
 use crate::page::{Page, empty, is_same};
 use crate::words::{at, byte, long, numbers};
-use crate::drawing;
 use ag_model::value::{Change, Row, TooOld};
 use std::io;
 
@@ -37,7 +37,11 @@ fn fill(rt: &HostRuntime, page: &mut Page, n: &[u64]) -> io::Result<()> {
     let mut count = 0u64;
     let mut same = true;
     for lsn in at(n, 0)..at(n, 0).saturating_add(at(n, 2)) {
-        let made = Made { lsn, txn: 1, key: 0 };
+        let made = Made {
+            lsn,
+            txn: 1,
+            key: 0,
+        };
         let (there, equal) = put_both(rt.alloc(), page, made, &put_of(at(n, 1), byte(lsn)));
         same = same && equal;
         if let Some(Ok(())) = there {
@@ -62,7 +66,10 @@ fn print_row(rt: &HostRuntime, row: &Option<Result<Row, TooOld>>) -> io::Result<
 
 /// Prints the LSN, the horizon and the versions of a page, as LSN, transaction, Commit and key.
 fn show(rt: &HostRuntime, page: &Page) -> io::Result<()> {
-    print!(rt; ": page {}, LSN {}, horizon {}", page.value.page, page.value.lsn, page.value.horizon)?;
+    print!(rt;
+        ": page {}, LSN {}, horizon {}",
+        page.value.page, page.value.lsn, page.value.horizon
+    )?;
     for w in page.value.versions.as_slice() {
         print!(rt; " {}:{}:{}:{}", w.lsn, w.txn, w.commit, w.key)?;
     }
@@ -80,7 +87,13 @@ fn step(rt: &HostRuntime, page: &mut Page, verb: &str, n: &[u64]) -> io::Result<
         "abort" => print_same(rt, abort_both(rt.alloc(), page, at(n, 0), at(n, 1)))?,
         "trim" => print_same(rt, trim_both(rt.alloc(), page, at(n, 0), at(n, 1)))?,
         "row" => {
-            let (row, same) = row_both(rt.alloc(), page, long(at(n, 0)), at(n, 1), n.get(2).copied());
+            let (row, same) = row_both(
+                rt.alloc(),
+                page,
+                long(at(n, 0)),
+                at(n, 1),
+                n.get(2).copied(),
+            );
             print_row(rt, &row)?;
             print_same(rt, same)?;
         }
