@@ -1,0 +1,4 @@
+pub mod View
+pub mod Faults
+pub mod Checks
+pub mod Invariant

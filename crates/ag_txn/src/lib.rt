@@ -1,0 +1,14 @@
+//! The open transactions and the buffer of a primary.
+#![tactic(auto)]
+
+mod copies;
+mod fault;
+mod opened;
+mod pages;
+mod sizes;
+mod txns;
+mod versions;
+
+pub use fault::TxnFault;
+pub use opened::OpenTxn;
+pub use txns::Txns;

@@ -1,0 +1,60 @@
+//! What is asked of the versions of a page.
+ghost use Rattle.std.specs.Prelude.{◌≡◌, ◌==◌, ◌&&◌, not};
+ghost use Rattle.ag_rules.specs.PutEvent.{is_locked, conflicts, page_is_full, last_commit};
+ghost use Rattle.ag_txn.specs.Faults.{IsChecked};
+
+use crate::fault::TxnFault;
+use ag_model::value::Version;
+
+/// Whether a version of the key is uncommitted and of another transaction.
+fn is_held(version: &Version, txn: u64, key: u32) -> bool
+    ensures { result ≡ ((version.now.key == key) && ((version.now.commit == 0) && not (version.now.txn == txn))) }
+{
+    version.key == key && (version.commit == 0 && version.txn != txn)
+}
+
+/// Tells whether another transaction has the key.
+pub(crate) fn check_lock(versions: &[Version], txn: u64, key: u32) -> Result<(), TxnFault>
+    ensures { IsChecked (is_locked txn key versions.now) result }
+{
+    for version in versions {
+        if is_held(version, txn, key) {
+            return Err(TxnFault::Locked { txn: version.txn });
+        }
+    }
+    Ok(())
+}
+
+/// The greatest commit of a key, an LSN, or 0.
+fn last_commit(versions: &[Version], key: u32) -> u64
+    ensures { result ≡ last_commit key versions.now }
+{
+    let mut last = 0;
+    for version in versions {
+        if version.key == key {
+            last = last.max(version.commit);
+        }
+    }
+    last
+}
+
+/// Tells whether the key was committed above a snapshot.
+pub(crate) fn check_conflict(versions: &[Version], key: u32, snapshot: u64) -> Result<(), TxnFault>
+    ensures { IsChecked (conflicts key snapshot versions.now) result }
+{
+    let commit = last_commit(versions, key);
+    if snapshot < commit {
+        return Err(TxnFault::Conflict { commit, snapshot });
+    }
+    Ok(())
+}
+
+/// Tells whether a page with so many bytes free has no room.
+pub(crate) fn check_room(need: u32, free: u32) -> Result<(), TxnFault>
+    ensures { IsChecked (page_is_full need free) result }
+{
+    if free < need {
+        return Err(TxnFault::PageFull { need, free });
+    }
+    Ok(())
+}
