@@ -1,5 +1,6 @@
 -- Lists of versions and of open transactions.
 use Rattle.std.proofs.Common.{◌≡◌, ◌<◌, ◌≤◌, ◌+◌, set, ℕ, zero, suc, Bool, true, false, cond, ◌||◌, List, [], ◌∷◌, ◌++◌, length, get_or, take, drop, map, refl, ap, ◌∙◌, arith, min, sym}
+use Rattle.std.specs.Prelude.{Some, slice_get}
 use Rattle.std.specs.List.{filter, list_any, fold}
 use Rattle.std.proofs.lemmas.List.{take_all}
 use Rattle.ag_rules.specs.Replica.{least, OpenTxn as RulesTxn}
@@ -52,3 +53,8 @@ each-more f xs ys i d lt is =
     step [] n h = absurd (omega arith)
     step (z ∷ zs) zero h = refl
     step (z ∷ zs) (suc n) h = ap (λ (l : List _). f z ∷ l) (step zs n (omega arith))
+
+-- a list with a first element has one
+pub some_first : {X : Type 0} (xs : List X) (x : X) → Some x ≡ slice_get xs 0 → 0 < length xs
+some_first [] x e = absurd (cc)
+some_first (y ∷ ys) x e = omega arith

@@ -1,5 +1,5 @@
 -- Why a call is refused, as the rules have it.
-use Rattle.std.specs.Prelude.{◌≡◌, ℕ, List, [], ◌∷◌, Bool, true, false, if◌then◌else◌, Option, Some, None, Result, Ok, Err, MatchResult}
+use Rattle.std.specs.Prelude.{◌≡◌, ◌≢◌, ℕ, List, [], ◌∷◌, Bool, true, false, if◌then◌else◌, Option, Some, None, Result, Ok, Err, MatchResult}
 use Rattle.ag_model.specs.declared.answer.Refusal.{Refusal}
 use Rattle.ag_model.specs.declared.answer.Refusal.TheVariants.{Locked as LockedHere, Conflict as ConflictHere, PageFull as PageFullHere, BufferFull as BufferFullHere, Held as HeldHere, Spent as SpentHere, Nothing as NothingHere}
 use Rattle.ag_rules.specs.Plan.{Check}
@@ -26,6 +26,10 @@ refusal_in (Err e) = refusal_of e
 abbrev pub first_refusal : List Check → Option Refusal
 first_refusal [] = None
 first_refusal (c ∷ cs) = if c.when then Some c.refusal else first_refusal cs
+
+-- an answer where these checks are made in order: none holds, or it is the refusal of the first that does, or want of memory
+abbrev pub IsAllowed : List Check → {T : Type 0} → Result T TxnFault → Type 0
+IsAllowed checks r = MatchResult r (λ x. first_refusal checks ≡ None) (λ e. e ≢ NoMemory → refusal_of e ≡ first_refusal checks)
 
 -- a call tells whether a check holds, and is refused so where it does
 abbrev pub IsChecked : Check → {T : Type 0} → Result T TxnFault → Type 0

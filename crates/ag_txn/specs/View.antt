@@ -26,6 +26,11 @@ with_copy page v copies = set copies (page - 16) (Some v)
 abbrev pub page_after : ℕ → ℕ → Record → ℕ → PageValue → PageValue
 page_after pages lsn r page v = if touches pages page r then after_record lsn r v else v
 
+-- the same after these records, of which the first has this LSN
+abbrev pub page_after_all : ℕ → ℕ → List Record → ℕ → PageValue → PageValue
+page_after_all pages lsn [] page v = v
+page_after_all pages lsn (r ∷ rs) page v = page_after_all pages (lsn + 1) rs page (page_after pages lsn r page v)
+
 -- the copy of a page after the record at this LSN
 abbrev pub copy_after : ℕ → ℕ → Record → ℕ × Option PageValue → Option PageValue
 copy_after pages lsn r x = option_map (page_after pages lsn r x.0) x.1

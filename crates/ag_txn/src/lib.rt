@@ -3,6 +3,7 @@
 
 mod copies;
 mod fault;
+mod listed;
 mod opened;
 mod pages;
 mod sizes;
