@@ -2,3 +2,4 @@ pub mod View
 pub mod Faults
 pub mod Checks
 pub mod Invariant
+pub mod Fresh

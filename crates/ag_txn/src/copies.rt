@@ -1,7 +1,11 @@
 //! Copies of pages with their buffered records.
-ghost use Rattle.std.specs.Prelude.{◌≡◌, ◌+◌, ◌≤◌, ◌<◌, None, IfOk, option_copied, length, replicate};
+ghost use Rattle.std.specs.Prelude.{◌≡◌, ◌+◌, ◌≤◌, ◌<◌, ◌^◌, ◌++◌, None, IfOk, OnOk, option_copied, option_to_list, length, replicate};
+ghost use Rattle.std.specs.List.{AllByRecursion};
+ghost use Rattle.ag_txn.specs.Fresh.{IsPage, kept_all, fresh_of, fresh_copies};
 ghost use Rattle.ag_txn.specs.View.{copy_of, with_copy};
 
+use crate::pages::edited;
+use ag_model::record::Record;
 use ag_model::value::{NoMemory, PageValue};
 use std::alloc::Global;
 use std::marker::Model;
@@ -18,6 +22,13 @@ impl Model for PageCopies {
     ghost Value = { Copies };
 
     ghost view = { λ c. c.slots.items };
+}
+
+/// A copy of a page that is to be kept.
+#[derive(Debug, Drop)]
+pub(crate) struct FreshCopy {
+    pub(crate) page: u16,
+    pub(crate) copy: PageValue,
 }
 
 /// The slot of a data page.
@@ -58,4 +69,70 @@ impl PageCopies {
     {
         self.slots[slot_of(page)] = Some(copy);
     }
+
+    /// Keeps these copies.
+    pub(crate) fn keep_all(&mut self, fresh: Vec<FreshCopy>)
+        requires { AllByRecursion (λ f. IsPage (length self.old) f.page) fresh.items }
+        ensures { self.new ≡ kept_all fresh.items self.old }
+    {
+        let mut left = fresh;
+        while let Some(next) = left.pop() {
+            self.keep(next.page, next.copy);
+        }
+    }
+}
+
+/// A fresh copy of a page that has one, with more records, of which the first has this LSN.
+fn fresh_copy(
+    alloc: Global,
+    pages: u16,
+    copies: &PageCopies,
+    page: u16,
+    first: u64,
+    records: &[Record],
+) -> Result<Option<FreshCopy>, NoMemory>
+    requires few { pages ≤ 2048 }
+    requires slots { length copies.now ≡ pages }
+    requires page { IsPage pages page }
+    requires lsns { first + length records.now < 2 ^ 64 }
+    ensures { IfOk result (λ fresh. fresh ≡ fresh_of pages first records.now copies.now page) }
+{
+    let Some(v) = copies.copy_of(page) else {
+        return Ok(None);
+    };
+    let copy = edited(alloc, pages, page, v, first, records)?;
+    Ok(Some(FreshCopy { page, copy }))
+}
+
+/// Adds a fresh copy, if there is one.
+fn add_some(fresh: &mut Vec<FreshCopy>, next: Option<FreshCopy>) -> Result<(), NoMemory>
+    ensures { OnOk result (fresh.new.items ≡ fresh.old.items ++ option_to_list next) }
+{
+    if let Some(copy) = next {
+        fresh.push(copy)?;
+    }
+    Ok(())
+}
+
+/// Fresh copies of those of these pages that have one, with more records, of which the first has this LSN.
+pub(crate) fn fresh_copies(
+    alloc: Global,
+    pages: u16,
+    copies: &PageCopies,
+    listed: &[u16],
+    first: u64,
+    records: &[Record],
+) -> Result<Vec<FreshCopy>, NoMemory>
+    requires few { pages ≤ 2048 }
+    requires slots { length copies.now ≡ pages }
+    requires listed { AllByRecursion (IsPage pages) listed.now }
+    requires lsns { first + length records.now < 2 ^ 64 }
+    ensures { IfOk result (λ fresh. fresh.items ≡ fresh_copies pages first records.now copies.now listed.now) }
+{
+    let mut fresh = Vec::new(alloc);
+    for page in listed {
+        let next = fresh_copy(alloc, pages, copies, *page, first, records)?;
+        add_some(&mut fresh, next)?;
+    }
+    Ok(fresh)
 }
