@@ -42,7 +42,7 @@ pub after_all_length : (pages lsn : ℕ) (rs : List Record) (copies : Copies) �
 after_all_length pages lsn [] copies = refl
 after_all_length pages lsn (r ∷ rs) copies =
     after_all_length pages (lsn + 1) rs (copies_after pages lsn r copies)
-    ∙ length-map (copy_after pages lsn r) (enumerate_from 16 copies) ∙ length-enumerate_from 16 copies
+    ∙ length-map (enumerate_from 16 copies) (copy_after pages lsn r) ∙ length-enumerate_from 16 copies
 
 -- records that don't touch a page leave it
 pub untouched_page : (pages lsn : ℕ) (rs : List Record) (page : ℕ) (v : PageValue) → list_any (touches pages page) rs ≡ false → page_after_all pages lsn rs page v ≡ v
@@ -86,7 +86,7 @@ fresh_more pages first rs copies listed i fresh new next lt so_far is added =
     one : (g : ℕ → Option FreshCopy) (x : ℕ) → option_to_list (g x) ≡ filter_map g (x ∷ [])
     one g x = by_some (g x)
 
-kept_length : (fs : List FreshCopy) (copies : Copies) → length (kept_all fs copies) ≡ length copies
+pub kept_length : (fs : List FreshCopy) (copies : Copies) → length (kept_all fs copies) ≡ length copies
 kept_length [] copies = refl
 kept_length (f ∷ fs) copies = length-set (kept_all fs copies) (f.page - 16) (Some f.copy) ∙ kept_length fs copies
 
@@ -107,10 +107,10 @@ how_rest pages first rs copies i p ps e (inl h) = inl (right (eqb (16 + i) p) (c
 how_rest pages first rs copies i p ps e (inr h) = inr h
 
 -- one page of the list, where the slot is another one's
-kept_other : (pages first : ℕ) (rs : List Record) (copies rest : Copies) (i p : ℕ) (fs : List FreshCopy) (o : Option PageValue) → p - 16 ≢ i → kept_all fs copies ≡ rest
+kept_other : (pages first : ℕ) (rs : List Record) (copies rest : Copies) (i p : ℕ) (fs : List FreshCopy) (o : Option PageValue) → i ≢ p - 16 → kept_all fs copies ≡ rest
     → get_or (kept_all (cons_option (option_map (λ v. record { page = p; copy = page_after_all pages first rs p v }) o) fs) copies) i None ≡ get_or rest i None
 kept_other pages first rs copies rest i p fs None ne e = ap (λ (cs : Copies). get_or cs i None) e
-kept_other pages first rs copies rest i p fs (Some v) ne e = get_or-set_other (kept_all fs copies) i (p - 16) (Some (page_after_all pages first rs p v)) None ne ∙ ap (λ (cs : Copies). get_or cs i None) e
+kept_other pages first rs copies rest i p fs (Some v) ne e = get_or-set_other (kept_all fs copies) (p - 16) i (Some (page_after_all pages first rs p v)) None ne ∙ ap (λ (cs : Copies). get_or cs i None) e
 
 -- one page of the list, whose slot it is
 kept_own : (pages first : ℕ) (rs : List Record) (copies : Copies) (i p : ℕ) (fs : List FreshCopy) (o : Option PageValue) → 16 + i ≡ p → i < length copies → get_or copies i None ≡ o
@@ -137,7 +137,7 @@ kept_at pages first rs copies (p ∷ ps) i lt own how = elim (cases_Bool (eqb (1
       kept_own pages first rs copies i p (fresh_copies pages first rs copies ps) (copy_of copies p) at lt (ap (λ (n : ℕ). get_or copies n None) place)
       (λ stays. kept_at pages first rs copies ps i lt own.1 (inr stays)))
   | inr f ↦
-      (let ne : p - 16 ≢ i = λ e. (let low = own.0.low in false≢true (sym f ∙ eq-eqb (16 + i) p (omega arith))) in
+      (let ne : i ≢ p - 16 = λ e. (let low = own.0.low in false≢true (sym f ∙ eq-eqb (16 + i) p (omega arith))) in
       kept_other pages first rs copies (kept_all (fresh_copies pages first rs copies ps) copies) i p (fresh_copies pages first rs copies ps) (copy_of copies p) ne refl
       ∙ kept_at pages first rs copies ps i lt own.1 (how_rest pages first rs copies i p ps f how))
 ]

@@ -3,3 +3,4 @@ pub mod Faults
 pub mod Checks
 pub mod Invariant
 pub mod Fresh
+pub mod Changes

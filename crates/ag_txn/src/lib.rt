@@ -6,6 +6,7 @@ mod fault;
 mod listed;
 mod opened;
 mod pages;
+mod room;
 mod sizes;
 mod txns;
 mod versions;

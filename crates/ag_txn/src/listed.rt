@@ -1,12 +1,13 @@
 //! The records of a whole transaction, and the pages that its Commit lists.
-ghost use Rattle.std.specs.Prelude.{◌≡◌, ℕ, ◌<◌, ◌≤◌, OnOk, IfOk, length, slice_index};
+ghost use Rattle.std.specs.Prelude.{◌≡◌, ℕ, ◌<◌, ◌≤◌, ◌∷◌, [], OnOk, IfOk, length, slice_index};
 ghost use Rattle.ag_model.specs.Txns.{insert_rising};
+ghost use Rattle.ag_rules.specs.PutEvent.{record_of};
 ghost use Rattle.ag_rules.specs.SetEvent.{pages_of_pairs, records_of_set};
 
 use ag_model::event::Pair;
 use ag_model::page::page_of;
 use ag_model::record::{PageList, Record, RecordList};
-use ag_model::value::NoMemory;
+use ag_model::value::{Change, NoMemory};
 use std::alloc::{AllocError, Global};
 
 /// The place of the first number that is not below this one, or the end.
@@ -73,4 +74,27 @@ pub(crate) fn records_of_set(
     let listed = pages_of_pairs(alloc, pages, pairs)?;
     records.push(Record::Commit { txn, pages: listed })?;
     Ok(records)
+}
+
+/// The record of a change.
+pub(crate) fn record_of(txn: u64, key: u32, change: &Change) -> Record
+    ensures { result ≡ record_of txn key change.now }
+{
+    match change {
+        Change::Put(value) => Record::Put {
+            txn,
+            key,
+            value: *value,
+        },
+        Change::Del => Record::Del { txn, key },
+    }
+}
+
+/// A list of one record.
+pub(crate) fn one_record(alloc: Global, entry: Record) -> Result<RecordList, NoMemory>
+    ensures { IfOk result (λ new. new ≡ entry ∷ []) }
+{
+    let mut new = RecordList::new(alloc);
+    new.push(entry)?;
+    Ok(new)
 }

@@ -1,5 +1,5 @@
 //! The bytes of records and versions.
-ghost use Rattle.std.specs.Prelude.{◌≡◌, ◌+◌, ◌*◌, ◌<◌, ℕ, IfOk, length};
+ghost use Rattle.std.specs.Prelude.{◌≡◌, ◌+◌, ◌*◌, ◌<◌, ◌≤◌, ℕ, IfOk, length};
 ghost use Rattle.ag_model.specs.Sizes.{change_size, free_bytes, record_size, records_size};
 ghost use Rattle.ag_rules.specs.PutEvent.{record_of};
 
@@ -71,4 +71,16 @@ pub(crate) fn records_size(records: &[Record]) -> Result<u32, NoMemory>
         size = size.checked_add(more).ok_or(NoMemory)?;
     }
     Ok(size)
+}
+
+/// How many bytes the records of a block take.
+pub(crate) fn small_size(records: &[Record]) -> u32
+    requires { records_size records.now ≤ 15488 }
+    ensures { result ≡ records_size records.now }
+{
+    let mut size = 0u64;
+    for entry in records {
+        size += record_size(entry);
+    }
+    size as u32
 }

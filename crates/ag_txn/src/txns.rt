@@ -1,20 +1,32 @@
 //! The open transactions and the buffer of a primary.
-ghost use Rattle.std.specs.Prelude.{◌≡◌, ◌<◌, ◌≤◌, ◌+◌, ◌^◌, ◌∷◌, [], ℕ, Bool, IfOk, OnOk, OnErr, map, MatchOption, length, ◌==◌, replicate, None};
-ghost use Rattle.std.specs.List.{list_any};
+ghost use Rattle.std.specs.Prelude.{◌≡◌, ◌<◌, ◌≤◌, ◌+◌, ◌^◌, ◌++◌, [], List, IfOk, OnOk, OnErr, map, MatchOption, length, ◌==◌, replicate, None};
+ghost use Rattle.std.specs.List.{list_any, AllByRecursion};
+ghost use Rattle.ag_model.specs.declared.record.Record.{Record};
+ghost use Rattle.ag_model.specs.Sizes.{records_size, buffer_free};
 ghost use Rattle.ag_rules.specs.Promotion.{is_spent};
 ghost use Rattle.ag_rules.specs.Replica.{least};
-ghost use Rattle.ag_txn.specs.View.{TxnsView, full_end, open_txns};
+ghost use Rattle.ag_txn.specs.Checks.{buffer_is_full};
+ghost use Rattle.ag_txn.specs.Faults.{IsChecked};
+ghost use Rattle.ag_txn.specs.Fresh.{IsPage, kept_all};
+ghost use Rattle.ag_txn.specs.View.{full_end, open_txns, seen};
 
-use crate::copies::PageCopies;
+mod changing;
+mod hardening;
+mod setting;
+
+use crate::copies::{FreshCopy, PageCopies};
 use crate::fault::TxnFault;
 use crate::opened::{OpenTxn, is_among, least_snapshot};
 use ag_model::record::RecordList;
-use ag_model::value::NoMemory;
+use ag_model::value::{NoMemory, PageValue};
 use std::alloc::Global;
 use std::marker::Model;
 
 /// The greatest transaction number that is raised no more.
 const LAST_NUMBER: u64 = 1 << 63;
+
+/// The bytes that the buffer has for its records.
+const BUFFER_ROOM: u32 = 15_488;
 
 /// The open transactions and the buffer of a primary, with a copy of each page that the buffer's records touch.
 #[derive(Debug, Drop)]
@@ -97,5 +109,49 @@ impl Txns {
         ensures { result ≡ full_end self.now }
     {
         self.end + self.buffer.len() as u64
+    }
+
+    /// A page as transactions see it.
+    fn seen<'a>(&'a self, page: &'a PageValue) -> &'a PageValue
+        requires { IsPage self.now.pages page.now.page }
+        ensures { result.now ≡ seen self.now page.now }
+    {
+        match self.copies.copy_of(page.page) {
+            Some(copy) => copy,
+            None => page,
+        }
+    }
+
+    /// Tells whether the buffer has no room for so many bytes.
+    fn check_buffer(&self, need: u32) -> Result<(), TxnFault>
+        ensures checked { (new : List Record) → records_size new ≡ need → IsChecked (buffer_is_full self.now.buffer new) result }
+        ensures room { OnOk result (need ≤ buffer_free self.now.buffer) }
+    {
+        let free = BUFFER_ROOM - self.bytes;
+        if free < need {
+            return Err(TxnFault::BufferFull { need, free });
+        }
+        Ok(())
+    }
+
+    /// Adds these records to the buffer, and keeps fresh copies.
+    fn add(
+        &mut self,
+        new: RecordList,
+        size: u32,
+        fresh: Vec<FreshCopy>,
+    ) -> Result<(), NoMemory>
+        requires size { size ≡ records_size new }
+        requires room { size ≤ buffer_free self.old.buffer }
+        requires lsns { full_end self.old + length new < 2 ^ 64 }
+        requires pages { AllByRecursion (λ f. IsPage self.old.pages f.page) fresh.items }
+        ensures ok { OnOk result (self.new ≡ record self.old { buffer = self.old.buffer ++ new; copies = kept_all fresh.items self.old.copies }) }
+        ensures err { OnErr result (self.new ≡ self.old) }
+    {
+        let mut records = new;
+        self.buffer.append(&mut records)?;
+        self.bytes += size;
+        self.copies.keep_all(fresh);
+        Ok(())
     }
 }

@@ -1,10 +1,13 @@
 //! What is asked of the versions of a page.
-ghost use Rattle.std.specs.Prelude.{◌≡◌, ◌==◌, ◌&&◌, not};
+ghost use Rattle.std.specs.Prelude.{◌≡◌, ◌≤◌, ◌==◌, ◌&&◌, not, Ok};
+ghost use Rattle.ag_model.specs.Page.{pick, row_of};
+ghost use Rattle.ag_rules.specs.GetEvent.{row_seen};
 ghost use Rattle.ag_rules.specs.PutEvent.{is_locked, conflicts, page_is_full, last_commit};
 ghost use Rattle.ag_txn.specs.Faults.{IsChecked};
 
 use crate::fault::TxnFault;
-use ag_model::value::Version;
+use ag_model::value::{Change, PageValue, Row, Version};
+use ag_version::row_at;
 
 /// Whether a version of the key is uncommitted and of another transaction.
 fn is_held(version: &Version, txn: u64, key: u32) -> bool
@@ -57,4 +60,51 @@ pub(crate) fn check_room(need: u32, free: u32) -> Result<(), TxnFault>
         return Err(TxnFault::PageFull { need, free });
     }
     Ok(())
+}
+
+/// Whether a version is of the key and of the transaction itself.
+fn is_own(version: &Version, txn: u64, key: u32) -> bool
+    ensures { result ≡ ((version.now.txn == txn) && (version.now.key == key)) }
+{
+    version.txn == txn && version.key == key
+}
+
+/// The row that a change leaves.
+fn row_of(change: &Change) -> Row
+    ensures { result ≡ row_of change.now }
+{
+    match change {
+        Change::Put(value) => Row::Found(*value),
+        Change::Del => Row::Absent,
+    }
+}
+
+/// The row of a key at a snapshot that isn't below the page's horizon.
+fn row_picked(v: &PageValue, key: u32, snapshot: u64) -> Result<Row, TxnFault>
+    requires { v.now.horizon ≤ snapshot }
+    ensures { result ≡ Ok (pick v.now key snapshot) }
+{
+    match row_at(v, key, snapshot, None) {
+        Ok(row) => Ok(row),
+        Err(_) => Err(TxnFault::NoMemory),
+    }
+}
+
+/// The row of a key that a transaction sees on a page.
+pub(crate) fn row_seen(
+    v: &PageValue,
+    txn: u64,
+    key: u32,
+    snapshot: u64,
+) -> Result<Row, TxnFault>
+    requires { v.now.horizon ≤ snapshot }
+    ensures { result ≡ Ok (row_seen v.now txn key snapshot) }
+{
+    let mut row = row_picked(v, key, snapshot)?;
+    for version in v.versions.as_slice() {
+        if is_own(version, txn, key) {
+            row = row_of(&version.change);
+        }
+    }
+    Ok(row)
 }
