@@ -1,20 +1,21 @@
 //! The open transactions and the buffer of a primary.
-ghost use Rattle.std.specs.Prelude.{◌≡◌, ◌<◌, ◌≤◌, ◌+◌, ◌^◌, ◌++◌, [], List, IfOk, OnOk, OnErr, map, MatchOption, length, ◌==◌, replicate, None};
-ghost use Rattle.std.specs.List.{list_any, AllByRecursion};
+ghost use Rattle.std.specs.Prelude.{◌≡◌, ◌≤◌, [], List, IfOk, OnOk, OnErr, map, MatchOption, length, ◌==◌, replicate, None};
+ghost use Rattle.std.specs.List.{list_any};
 ghost use Rattle.ag_model.specs.declared.record.Record.{Record};
 ghost use Rattle.ag_model.specs.Sizes.{records_size, buffer_free};
 ghost use Rattle.ag_rules.specs.Promotion.{is_spent};
 ghost use Rattle.ag_rules.specs.Replica.{least};
 ghost use Rattle.ag_txn.specs.Checks.{buffer_is_full};
 ghost use Rattle.ag_txn.specs.Faults.{IsChecked};
-ghost use Rattle.ag_txn.specs.Fresh.{IsPage, kept_all};
+ghost use Rattle.ag_txn.specs.Fresh.{IsPage};
 ghost use Rattle.ag_txn.specs.View.{full_end, open_txns, seen};
 
+mod adding;
 mod changing;
 mod hardening;
 mod setting;
 
-use crate::copies::{FreshCopy, PageCopies};
+use crate::copies::PageCopies;
 use crate::fault::TxnFault;
 use crate::opened::{OpenTxn, is_among, least_snapshot};
 use ag_model::record::RecordList;
@@ -131,27 +132,6 @@ impl Txns {
         if free < need {
             return Err(TxnFault::BufferFull { need, free });
         }
-        Ok(())
-    }
-
-    /// Adds these records to the buffer, and keeps fresh copies.
-    fn add(
-        &mut self,
-        new: RecordList,
-        size: u32,
-        fresh: Vec<FreshCopy>,
-    ) -> Result<(), NoMemory>
-        requires size { size ≡ records_size new }
-        requires room { size ≤ buffer_free self.old.buffer }
-        requires lsns { full_end self.old + length new < 2 ^ 64 }
-        requires pages { AllByRecursion (λ f. IsPage self.old.pages f.page) fresh.items }
-        ensures ok { OnOk result (self.new ≡ record self.old { buffer = self.old.buffer ++ new; copies = kept_all fresh.items self.old.copies }) }
-        ensures err { OnErr result (self.new ≡ self.old) }
-    {
-        let mut records = new;
-        self.buffer.append(&mut records)?;
-        self.bytes += size;
-        self.copies.keep_all(fresh);
         Ok(())
     }
 }

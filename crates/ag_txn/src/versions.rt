@@ -91,12 +91,7 @@ fn row_picked(v: &PageValue, key: u32, snapshot: u64) -> Result<Row, TxnFault>
 }
 
 /// The row of a key that a transaction sees on a page.
-pub(crate) fn row_seen(
-    v: &PageValue,
-    txn: u64,
-    key: u32,
-    snapshot: u64,
-) -> Result<Row, TxnFault>
+pub(crate) fn row_seen(v: &PageValue, txn: u64, key: u32, snapshot: u64) -> Result<Row, TxnFault>
     requires { v.now.horizon ≤ snapshot }
     ensures { result ≡ Ok (row_seen v.now txn key snapshot) }
 {

@@ -1,6 +1,6 @@
 //! What an open transaction does: it begins, reads and changes rows.
-ghost use Rattle.std.specs.Prelude.{◌≡◌, ◌≤◌, ◌<◌, ◌+◌, ◌^◌, ◌==◌, ◌∷◌, [], ℕ, Ok, IfOk, OnErr, OnOk};
-ghost use Rattle.ag_model.specs.Rows.{page_of, touches};
+ghost use Rattle.std.specs.Prelude.{◌≡◌, ◌≤◌, ◌<◌, ◌+◌, ◌^◌, ◌∷◌, [], Ok, IfOk, OnErr, OnOk};
+ghost use Rattle.ag_model.specs.Rows.{page_of};
 ghost use Rattle.ag_model.specs.Sizes.{record_size, buffer_free};
 ghost use Rattle.ag_rules.specs.GetEvent.{row_seen};
 ghost use Rattle.ag_rules.specs.PutEvent.{record_of as change_record};
@@ -8,19 +8,16 @@ ghost use Rattle.ag_txn.specs.Changes.{with_begun, with_put};
 ghost use Rattle.ag_txn.specs.Checks.{number_is_spent, checks_of_put, snapshot_of as snapshot_in_view};
 ghost use Rattle.ag_txn.specs.Faults.{refusal_in, first_refusal};
 ghost use Rattle.ag_txn.specs.Fresh.{IsPage};
-ghost use Rattle.ag_txn.specs.View.{full_end, seen, with_seen, with_records};
+ghost use Rattle.ag_txn.specs.View.{full_end, seen};
 
 use super::Txns;
-use crate::copies::FreshCopy;
 use crate::fault::TxnFault;
-use crate::listed::{one_record, record_of};
+use crate::listed::record_of;
 use crate::opened::{OpenTxn, snapshot_of, touch};
-use crate::pages::edited;
 use crate::sizes::{change_record_size, change_size, free_bytes};
 use crate::versions::{check_conflict, check_lock, check_room, row_seen};
 use ag_model::page_set::PageSet;
-use ag_model::record::Record;
-use ag_model::value::{Change, NoMemory, PageValue, Row};
+use ag_model::value::{Change, PageValue, Row};
 
 impl Txns {
     /// Opens a transaction, whose snapshot is the end of the log with the buffer, and answers its number. Spent says that no
@@ -78,30 +75,6 @@ impl Txns {
         Ok(())
     }
 
-    /// Adds a record that touches one page, and answers its LSN.
-    fn add_one(&mut self, page: &PageValue, entry: Record, size: u32) -> Result<u64, NoMemory>
-        requires page { IsPage self.old.pages page.now.page }
-        requires touches { (p : ℕ) → touches self.old.pages p entry ≡ (p == page.now.page) }
-        requires size { size ≡ record_size entry }
-        requires room { size ≤ buffer_free self.old.buffer }
-        requires lsns { full_end self.old ≤ 2 ^ 63 }
-        ensures lsn { IfOk result (λ lsn. lsn ≡ full_end self.old + 1) }
-        ensures added { OnOk result (self.new ≡ with_records (with_seen self.old page.now) (entry ∷ [])) }
-        ensures err { OnErr result (self.new ≡ self.old) }
-    {
-        let lsn = self.full_end() + 1;
-        let new = one_record(self.alloc, entry)?;
-        let seen = self.seen(page);
-        let copy = edited(self.alloc, self.pages, page.page, seen, lsn, new.as_slice())?;
-        let mut fresh = Vec::new(self.alloc);
-        fresh.push(FreshCopy {
-            page: page.page,
-            copy,
-        })?;
-        self.add(new, size, fresh)?;
-        Ok(lsn)
-    }
-
     /// Puts or deletes a row in a transaction, and answers the LSN of its record. `page` is the hardened page of the key. What
     /// refuses it is judged by the page as transactions see it.
     pub fn put(
@@ -118,8 +91,13 @@ impl Txns {
         ensures put { OnOk result (self.new ≡ with_put self.old page.now txn key change.now) }
         ensures err { OnErr result (self.new ≡ self.old) }
     {
+        let _ = &self.buffer;
         self.check_put(page, txn, key, change)?;
-        let lsn = self.add_one(page, record_of(txn, key, change), change_record_size(change))?;
+        let lsn = self.add_one(
+            page,
+            record_of(txn, key, change),
+            change_record_size(change),
+        )?;
         touch(&mut self.txns, txn, page.page);
         Ok(lsn)
     }

@@ -11,7 +11,6 @@ ghost use Rattle.ag_txn.specs.Fresh.{IsPage};
 ghost use Rattle.ag_txn.specs.View.{full_end, seen, with_seen};
 
 use super::Txns;
-use crate::copies::fresh_copies;
 use crate::fault::TxnFault;
 use crate::listed::{pages_of_pairs, records_of_set};
 use crate::pages::edited;
@@ -38,7 +37,12 @@ impl Txns {
 
     /// Tells whether a pair of a `set` isn't taken, after the earlier pairs of the list. `page` is the hardened page of its key:
     /// where the pair passes, a copy of it is kept for `set`.
-    pub fn may_set(&mut self, pairs: &PairList, place: u32, page: &PageValue) -> Result<(), TxnFault>
+    pub fn may_set(
+        &mut self,
+        pairs: &PairList,
+        place: u32,
+        page: &PageValue,
+    ) -> Result<(), TxnFault>
         requires place { place < length pairs.now }
         requires few { length pairs.now ≤ 8 }
         requires number { is_spent self.old.last_txn ≡ false }
@@ -70,20 +74,11 @@ impl Txns {
         ensures err { OnErr result (self.new ≡ self.old) }
     {
         let txn = self.last_txn + 1;
-        let first = self.full_end() + 1;
         let new = records_of_set(self.alloc, self.pages, txn, pairs.as_slice())?;
         let size = records_size(new.as_slice())?;
         self.check_buffer(size)?;
         let listed = pages_of_pairs(self.alloc, self.pages, pairs.as_slice())?;
-        let fresh = fresh_copies(
-            self.alloc,
-            self.pages,
-            &self.copies,
-            listed.as_slice(),
-            first,
-            new.as_slice(),
-        )?;
-        self.add(new, size, fresh)?;
+        self.add_listed(listed.as_slice(), new, size)?;
         self.last_txn = txn;
         Ok(self.full_end())
     }
