@@ -2,3 +2,4 @@ pub mod Lists
 pub mod Rising
 pub mod Copied
 pub mod Added
+pub mod Refused

@@ -71,7 +71,9 @@ impl Txns {
         let snapshot = snapshot_of(&self.txns, txn);
         check_conflict(seen.versions.as_slice(), key, snapshot)?;
         check_room(change_size(change), free_bytes(seen))?;
-        self.check_buffer(change_record_size(change))?;
+        if let Err(fault) = self.check_buffer(change_record_size(change)) {
+            return Err(fault);
+        }
         Ok(())
     }
 
