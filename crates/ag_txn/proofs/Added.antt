@@ -9,6 +9,7 @@ use Rattle.std.proofs.lemmas.Bool.Decides.{eqb_tells}
 use Rattle.std.proofs.lemmas.Nat.{mod_below}
 use Rattle.std.proofs.lemmas.List.{ext_get_or, get_or-set_same, get_or-set_other}
 use Rattle.std.proofs.lemmas.List.Folds.{list_any-append}
+use Rattle.std.proofs.lemmas.List.Elements.{filter-append}
 use Rattle.ag_lists.proofs.Filters.{all_filter}
 use Rattle.ag_model.specs.declared.event.Pair.{Pair}
 use Rattle.ag_model.specs.declared.record.Record.{Record}
@@ -51,6 +52,23 @@ contains-filter f p a (suc n) l h =
 range_in : (pages a n : ℕ) → 16 ≤ a → a + n ≤ 16 + pages → AllByRecursion (IsPage pages) (range_with_len a n)
 range_in pages a zero low high = tt
 range_in pages a (suc n) low high = (record { low = low; high = omega arith }, range_in pages (a + 1) n (omega arith) (omega arith))
+
+-- data pages that pass a test are pages
+pub passing_in : (pages : ℕ) (f : ℕ → Bool) → AllByRecursion (IsPage pages) (filter f (page_numbers pages))
+passing_in pages f = all_filter (IsPage pages) f (page_numbers pages) (range_in pages 16 pages (omega arith) (omega arith))
+
+range_push : (a n : ℕ) → range_with_len a (suc n) ≡ range_with_len a n ++ (a + n) ∷ []
+range_push a zero = ap (λ (k : ℕ). k ∷ []) (omega arith)
+range_push a (suc n) = ap (λ (l : List ℕ). a ∷ l) (range_push (a + 1) n ∙ ap (λ (k : ℕ). range_with_len (a + 1) n ++ k ∷ []) (omega arith))
+
+-- one more data page
+pub listed_more : (f : ℕ → Bool) (page : ℕ) (there : Bool) (old new : List ℕ) → 16 ≤ page → old ≡ filter f (range_with_len 16 (page - 16)) → there ≡ f page → new ≡ old ++ cond there (page ∷ []) [] → new ≡ filter f (range_with_len 16 (page + 1 - 16))
+listed_more f page there old new low so_far is added =
+    let next : page + 1 - 16 ≡ suc (page - 16) = omega arith in
+    let last : 16 + (page - 16) ≡ page = omega arith in
+    added ∙ (λ i. so_far i ++ cond (is i) (page ∷ []) [])
+    ∙ sym (filter-append f (range_with_len 16 (page - 16)) (page ∷ []))
+    ∙ sym (ap (λ (n : ℕ). filter f (range_with_len 16 n)) next ∙ ap (filter f) (range_push 16 (page - 16) ∙ ap (λ (k : ℕ). range_with_len 16 (page - 16) ++ k ∷ []) last))
 
 -- the pages of pairs are pages
 pub pages_in : (pages : ℕ) (pairs : List Pair) → AllByRecursion (IsPage pages) (pages_of_pairs pages pairs)

@@ -1,5 +1,5 @@
 -- What the calls leave.
-use Rattle.std.specs.Prelude.{◌≡◌, ℕ, ◌+◌, ◌-◌, List, [], ◌∷◌, ◌++◌, length, map, get_or, not, ◌==◌, Option, Some, None}
+use Rattle.std.specs.Prelude.{◌≡◌, ℕ, ◌+◌, ◌-◌, List, [], ◌∷◌, ◌++◌, length, map, get_or, Bool, not, ◌==◌, Option, Some, None}
 use Rattle.std.specs.List.{AllByRecursion, filter, fold}
 use Rattle.std.specs.Option.{IsSome}
 use Rattle.ag_model.specs.declared.value.Change.{Change}
@@ -8,7 +8,10 @@ use Rattle.ag_model.specs.declared.event.Pair.{Pair}
 use Rattle.ag_model.specs.declared.message.Block.{Block}
 use Rattle.ag_model.specs.declared.record.Record.{Record}
 use Rattle.ag_model.specs.declared.record.Record.TheVariants.{Trim}
-use Rattle.ag_model.specs.Rows.{page_of}
+use Rattle.ag_model.specs.Rows.{contains, page_of, page_numbers}
+use Rattle.ag_rules.specs.CommitEvent.{end_record}
+use Rattle.ag_rules.specs.Plan.{Check}
+use Rattle.ag_txn.specs.Checks.{buffer_is_full}
 use Rattle.ag_rules.specs.PutEvent.{record_of}
 use Rattle.ag_rules.specs.SetEvent.{records_of_set}
 use Rattle.ag_txn.specs.View.{TxnsView, copy_of, full_end, touching, with_records, with_seen}
@@ -53,3 +56,30 @@ with_block_back t block = record t { end = block.first - 1; buffer = block.recor
 -- no copies, where no transaction is open
 abbrev pub forgotten : TxnsView → TxnsView
 forgotten t = record t { copies = map (λ c. None) t.copies }
+
+-- the transaction of this number isn't open any more
+abbrev pub closed : TxnsView → ℕ → TxnsView
+closed t txn = record t { txns = filter (λ o. not (o.txn == txn)) t.txns }
+
+-- the pages that an open transaction touched
+abbrev pub touched_in : ℕ → List OpenTxn → List ℕ
+touched_in txn txns = fold (λ s o. o.touched) [] (filter (λ o. o.txn == txn) txns)
+
+-- the data pages among them, rising
+abbrev pub listed_pages : TxnsView → ℕ → List ℕ
+listed_pages t txn = filter (λ p. contains p (touched_in txn t.txns)) (page_numbers t.pages)
+
+-- an open transaction that touched these pages ends: with a Commit or else an Abort that lists them, and without a record where there is none
+abbrev pub ended : Bool → TxnsView → ℕ → List ℕ → TxnsView
+ended commits t txn [] = closed t txn
+ended commits t txn (p ∷ ps) = with_records (closed t txn) (end_record commits txn (p ∷ ps) ∷ [])
+
+-- the LSN of that record
+abbrev pub end_lsn : TxnsView → List ℕ → Option ℕ
+end_lsn t [] = None
+end_lsn t (p ∷ ps) = Some (full_end t + 1)
+
+-- when an open transaction that touched these pages can't end
+abbrev pub checks_of_end : Bool → TxnsView → ℕ → List ℕ → List Check
+checks_of_end commits t txn [] = []
+checks_of_end commits t txn (p ∷ ps) = buffer_is_full t.buffer (end_record commits txn (p ∷ ps) ∷ []) ∷ []

@@ -1,6 +1,7 @@
 //! The records of a whole transaction, and the pages that its Commit lists.
 ghost use Rattle.std.specs.Prelude.{◌≡◌, ℕ, ◌<◌, ◌≤◌, ◌∷◌, [], OnOk, IfOk, length, slice_index};
 ghost use Rattle.ag_model.specs.Txns.{insert_rising};
+ghost use Rattle.ag_rules.specs.CommitEvent.{end_record};
 ghost use Rattle.ag_rules.specs.PutEvent.{record_of};
 ghost use Rattle.ag_rules.specs.SetEvent.{pages_of_pairs, records_of_set};
 
@@ -97,4 +98,16 @@ pub(crate) fn one_record(alloc: Global, entry: Record) -> Result<RecordList, NoM
     let mut new = RecordList::new(alloc);
     new.push(entry)?;
     Ok(new)
+}
+
+/// The Commit of a transaction, or else its Abort.
+pub(crate) fn end_record(commits: bool, txn: u64, listed: Vec<u16>) -> Record
+    ensures { result ≡ end_record commits txn listed.items }
+{
+    let pages = PageList::from_vec(listed);
+    if commits {
+        Record::Commit { txn, pages }
+    } else {
+        Record::Abort { txn, pages }
+    }
 }

@@ -12,6 +12,7 @@ ghost use Rattle.ag_txn.specs.View.{full_end, open_txns, seen};
 
 mod adding;
 mod changing;
+mod ending;
 mod hardening;
 mod setting;
 
