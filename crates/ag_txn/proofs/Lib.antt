@@ -3,3 +3,4 @@ pub mod Rising
 pub mod Copied
 pub mod Added
 pub mod Refused
+pub mod Effects

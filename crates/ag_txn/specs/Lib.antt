@@ -4,3 +4,4 @@ pub mod Checks
 pub mod Invariant
 pub mod Fresh
 pub mod Changes
+pub mod Effective

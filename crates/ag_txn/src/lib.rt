@@ -3,6 +3,7 @@
 
 mod copies;
 mod fault;
+pub mod laws;
 mod listed;
 mod opened;
 mod pages;
