@@ -163,8 +163,8 @@ added-effective pages log buffer new copies h proper have = record {
         let split : whole ≡ (log ++ buffer) ++ new = sym (append_assoc log buffer new) in
         let long : length log + length buffer ≡ length (log ++ buffer) = sym (length-append log buffer) in
         let before : u ≡ value pages whole (length log + length buffer) page =
-            h.values page u low high e
-            ∙ sym ((λ i. value pages (split i) (long i) page) ∙ value-front pages (length (log ++ buffer)) page (log ++ buffer) new (omega arith)) in
+        h.values page u low high e
+        ∙ sym ((λ i. value pages (split i) (long i) page) ∙ value-front pages (length (log ++ buffer)) page (log ++ buffer) new (omega arith)) in
         sym made ∙ along pages page (length log + length buffer) whole (log ++ buffer) new u low high proper split long before
         ∙ ap (λ (m : ℕ). value pages whole m page) (omega (arith, length-append log (buffer ++ new), length-append buffer new))
 

@@ -21,10 +21,6 @@ use Rattle.ag_txn.specs.declared.opened.OpenTxn.{OpenTxn}
 abbrev pub pair_at : List Pair → ℕ → Pair
 pair_at pairs place = get_or pairs place (record { key = 0; value = record { len = 0; bytes = [] } })
 
--- the page of each pair has a copy
-abbrev pub HaveCopies : TxnsView → List Pair → Type 0
-HaveCopies t pairs = AllByRecursion (λ pair. IsSome (copy_of t.copies (page_of t.pages pair.key))) pairs
-
 -- a whole transaction of these pairs
 abbrev pub with_set : TxnsView → List Pair → TxnsView
 with_set t pairs = record (with_records t (records_of_set t.pages (t.last_txn + 1) pairs)) { last_txn = t.last_txn + 1 }

@@ -1,5 +1,5 @@
 //! Copies of pages with their buffered records.
-ghost use Rattle.std.specs.Prelude.{◌≡◌, ◌+◌, ◌≤◌, ◌<◌, ◌^◌, ◌++◌, None, IfOk, OnOk, option_copied, option_to_list, length, replicate};
+ghost use Rattle.std.specs.Prelude.{◌≡◌, ◌+◌, ◌≤◌, ◌<◌, ◌^◌, ◌++◌, map, None, IfOk, OnOk, option_copied, option_to_list, length, replicate};
 ghost use Rattle.std.specs.List.{AllByRecursion};
 ghost use Rattle.ag_txn.specs.Fresh.{IsPage, kept_all, fresh_of, fresh_copies};
 ghost use Rattle.ag_txn.specs.View.{copy_of, with_copy};
@@ -39,6 +39,15 @@ fn slot_of(page: u16) -> usize
     usize::from(page - 16)
 }
 
+/// Empties all slots.
+fn forget_slots(slots: &mut Vec<Option<PageValue>>)
+    ensures { slots.new.items ≡ map (λ c. None) slots.old.items }
+{
+    for slot in slots.iter_mut() {
+        *slot = None;
+    }
+}
+
 impl PageCopies {
     /// No copy of any of so many pages.
     pub(crate) fn none(alloc: Global, pages: u16) -> Result<PageCopies, NoMemory>
@@ -68,6 +77,13 @@ impl PageCopies {
         ensures { self.new ≡ with_copy page copy self.old }
     {
         self.slots[slot_of(page)] = Some(copy);
+    }
+
+    /// Lets all copies go.
+    pub(crate) fn forget(&mut self)
+        ensures { self.new ≡ map (λ c. None) self.old }
+    {
+        forget_slots(&mut self.slots);
     }
 
     /// Keeps these copies.

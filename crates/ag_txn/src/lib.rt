@@ -6,9 +6,11 @@ mod fault;
 pub mod laws;
 mod listed;
 mod opened;
+mod order;
 mod pages;
 mod room;
 mod sizes;
+mod trimming;
 mod txns;
 mod versions;
 

@@ -107,11 +107,7 @@ fn list_if(listed: &mut Vec<u16>, page: u16, there: bool) -> Result<(), NoMemory
 }
 
 /// The data pages of a set, rising, where there are so many data pages.
-pub(crate) fn listed_pages(
-    alloc: Global,
-    pages: u16,
-    set: &PageSet,
-) -> Result<Vec<u16>, NoMemory>
+pub(crate) fn listed_pages(alloc: Global, pages: u16, set: &PageSet) -> Result<Vec<u16>, NoMemory>
     requires { pages ≤ 2048 }
     ensures { IfOk result (λ listed. listed.items ≡ filter (λ p. contains p set.now) (page_numbers pages)) }
 {

@@ -15,6 +15,7 @@ mod changing;
 mod ending;
 mod hardening;
 mod setting;
+mod trimming;
 
 use crate::copies::PageCopies;
 use crate::fault::TxnFault;
@@ -76,6 +77,15 @@ impl Txns {
             bytes: 0,
             copies,
         })
+    }
+
+    /// How many data pages there are.
+    pub fn pages(&self) -> u16
+        ensures answer { result ≡ self.now.pages }
+        ensures low { 16 ≤ result }
+        ensures high { result ≤ 2048 }
+    {
+        self.pages
     }
 
     /// The buffer: the records that aren't hardened.

@@ -1,13 +1,14 @@
 //! What is asked of the versions of a page.
-ghost use Rattle.std.specs.Prelude.{◌≡◌, ◌≤◌, ◌==◌, ◌&&◌, not, Ok};
-ghost use Rattle.ag_model.specs.Page.{pick, row_of};
+ghost use Rattle.std.specs.Prelude.{◌≡◌, ◌==◌, ◌&&◌, ◌++◌, ◌∷◌, [], not, option_to_list};
+ghost use Rattle.std.specs.List.{filter};
+ghost use Rattle.ag_model.specs.Page.{greatest, is_committed_at, pick, row_of};
 ghost use Rattle.ag_rules.specs.GetEvent.{row_seen};
 ghost use Rattle.ag_rules.specs.PutEvent.{is_locked, conflicts, page_is_full, last_commit};
 ghost use Rattle.ag_txn.specs.Faults.{IsChecked};
 
 use crate::fault::TxnFault;
+use crate::order::{is_before, is_committed_at};
 use ag_model::value::{Change, PageValue, Row, Version};
-use ag_version::row_at;
 
 /// Whether a version of the key is uncommitted and of another transaction.
 fn is_held(version: &Version, txn: u64, key: u32) -> bool
@@ -79,27 +80,56 @@ fn row_of(change: &Change) -> Row
     }
 }
 
-/// The row of a key at a snapshot that isn't below the page's horizon.
-fn row_picked(v: &PageValue, key: u32, snapshot: u64) -> Result<Row, TxnFault>
-    requires { v.now.horizon ≤ snapshot }
-    ensures { result ≡ Ok (pick v.now key snapshot) }
+/// The greater of the greatest version so far and one more.
+fn later(best: Option<Version>, v: Version) -> Option<Version>
+    ensures { option_to_list result ≡ greatest (option_to_list best ++ v ∷ []) }
 {
-    match row_at(v, key, snapshot, None) {
-        Ok(row) => Ok(row),
-        Err(_) => Err(TxnFault::NoMemory),
+    match best {
+        Some(old) => Some(if is_before(&old, &v) { v } else { old }),
+        None => Some(v),
+    }
+}
+
+/// Whether a version is of this key and committed at most at a snapshot.
+fn is_visible(snapshot: u64, key: u32, v: &Version) -> bool
+    ensures { result ≡ ((v.now.key == key) && is_committed_at snapshot v.now) }
+{
+    v.key == key && is_committed_at(snapshot, v)
+}
+
+/// The last version of a key that is committed at most at a snapshot.
+fn last_committed(versions: &[Version], key: u32, snapshot: u64) -> Option<Version>
+    ensures { option_to_list result ≡ greatest (filter (λ w. (w.key == key) && is_committed_at snapshot w) versions.now) }
+{
+    let mut best = None;
+    for version in versions {
+        if is_visible(snapshot, key, version) {
+            best = later(best, *version);
+        }
+    }
+    best
+}
+
+/// The row of a key at a snapshot.
+#[tactic(auto, unfolding(ag_model::specs::Page::pick))]
+fn row_picked(v: &PageValue, key: u32, snapshot: u64) -> Row
+    ensures { result ≡ pick v.now key snapshot }
+{
+    match last_committed(v.versions.as_slice(), key, snapshot) {
+        Some(version) => row_of(&version.change),
+        None => Row::Absent,
     }
 }
 
 /// The row of a key that a transaction sees on a page.
-pub(crate) fn row_seen(v: &PageValue, txn: u64, key: u32, snapshot: u64) -> Result<Row, TxnFault>
-    requires { v.now.horizon ≤ snapshot }
-    ensures { result ≡ Ok (row_seen v.now txn key snapshot) }
+pub(crate) fn row_seen(v: &PageValue, txn: u64, key: u32, snapshot: u64) -> Row
+    ensures { result ≡ row_seen v.now txn key snapshot }
 {
-    let mut row = row_picked(v, key, snapshot)?;
+    let mut row = row_picked(v, key, snapshot);
     for version in v.versions.as_slice() {
         if is_own(version, txn, key) {
             row = row_of(&version.change);
         }
     }
-    Ok(row)
+    row
 }

@@ -1,5 +1,5 @@
 //! What an open transaction does: it begins, reads and changes rows.
-ghost use Rattle.std.specs.Prelude.{◌≡◌, ◌≤◌, ◌<◌, ◌+◌, ◌^◌, ◌∷◌, [], Ok, IfOk, OnErr, OnOk};
+ghost use Rattle.std.specs.Prelude.{◌≡◌, ◌≤◌, ◌<◌, ◌+◌, ◌^◌, ◌∷◌, [], IfOk, OnErr, OnOk};
 ghost use Rattle.ag_model.specs.Rows.{page_of};
 ghost use Rattle.ag_model.specs.Sizes.{record_size, buffer_free};
 ghost use Rattle.ag_rules.specs.GetEvent.{row_seen};
@@ -44,14 +44,12 @@ impl Txns {
 
     /// The row of a key as a transaction sees it: its own last change, and else the row at its snapshot. `page` is the hardened
     /// page of the key.
-    pub fn get(&self, page: &PageValue, txn: u64, key: u32) -> Result<Row, TxnFault>
-        requires page { page.now.page ≡ page_of self.now.pages key }
-        requires horizon { (seen self.now page.now).horizon ≤ snapshot_in_view self.now txn }
-        ensures { result ≡ Ok (row_seen (seen self.now page.now) txn key (snapshot_in_view self.now txn)) }
+    pub fn get(&self, page: &PageValue, txn: u64, key: u32) -> Row
+        requires { page.now.page ≡ page_of self.now.pages key }
+        ensures { result ≡ row_seen (seen self.now page.now) txn key (snapshot_in_view self.now txn) }
     {
         let snapshot = snapshot_of(&self.txns, txn);
-        let row = row_seen(self.seen(page), txn, key, snapshot)?;
-        Ok(row)
+        row_seen(self.seen(page), txn, key, snapshot)
     }
 
     /// Tells whether a change isn't taken.

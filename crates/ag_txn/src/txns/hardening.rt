@@ -20,6 +20,7 @@ impl Txns {
     pub fn take_block(&mut self, term: u64) -> Result<Block, TxnFault>
         ensures checked { IsChecked (buffer_is_empty self.old) result }
         ensures block { IfOk result (λ block. block ≡ block_of self.old term) }
+        ensures room { IfOk result (λ block. records_size block.records ≤ 15488) }
         ensures taken { OnOk result (self.new ≡ with_block_taken self.old) }
         ensures err { OnErr result (self.new ≡ self.old) }
     {
@@ -50,5 +51,15 @@ impl Txns {
         self.bytes = small_size(records.as_slice());
         self.end = first - 1;
         self.buffer = records;
+    }
+
+    /// Lets all copies go, to free their memory. Nothing is lost: the buffer is empty and no transaction is open. It takes time by
+    /// the data pages.
+    pub fn forget(&mut self)
+        requires empty { length self.old.buffer ≡ 0 }
+        requires ended { self.old.txns ≡ [] }
+        ensures { self.new ≡ forgotten self.old }
+    {
+        self.copies.forget();
     }
 }

@@ -4,7 +4,7 @@ ghost use Rattle.std.specs.List.{AllByRecursion};
 ghost use Rattle.ag_model.specs.Rows.{page_of};
 ghost use Rattle.ag_rules.specs.Promotion.{is_spent};
 ghost use Rattle.ag_rules.specs.SetEvent.{checks_of_pair, pages_of_pairs, records_of_set};
-ghost use Rattle.ag_txn.specs.Changes.{pair_at, HaveCopies, with_set};
+ghost use Rattle.ag_txn.specs.Changes.{pair_at, with_set};
 ghost use Rattle.ag_txn.specs.Checks.{buffer_is_full};
 ghost use Rattle.ag_txn.specs.Faults.{IsAllowed, refusal_in, first_refusal};
 ghost use Rattle.ag_txn.specs.Fresh.{IsPage};
@@ -61,12 +61,12 @@ impl Txns {
         Ok(())
     }
 
-    /// Adds a whole transaction of these pairs to the buffer, and answers the LSN of its Commit. Each pair has passed `may_set`.
+    /// Adds a whole transaction of these pairs to the buffer, and answers the LSN of its Commit. Each pair has passed `may_set`, which
+    /// kept a copy of its page.
     pub fn set(&mut self, pairs: &PairList) -> Result<u64, TxnFault>
         requires some { 1 ≤ length pairs.now }
         requires few { length pairs.now ≤ 8 }
         requires number { is_spent self.old.last_txn ≡ false }
-        requires passed { HaveCopies self.old pairs.now }
         requires lsns { full_end self.old ≤ 2 ^ 63 }
         ensures allowed { IsAllowed (buffer_is_full self.old.buffer (records_of_set self.old.pages (self.old.last_txn + 1) pairs.now) ∷ []) result }
         ensures lsn { IfOk result (λ lsn. lsn ≡ full_end self.new) }

@@ -19,7 +19,7 @@ returns-in-Err-clause-refused c =
     let versions : c.as_slice.result.now ≡ v.versions = c.as_slice.ensures ∙ ap (λ (w : PageValue). w.versions) c.seen-seen.ensures in
     let versions2 : c.as_slice-2.result.now ≡ v.versions = c.as_slice-2.ensures ∙ ap (λ (w : PageValue). w.versions) c.seen-seen.ensures in
     let snapshot : c.snapshot_of-snapshot.result ≡ snapshot_of t c.args.txn =
-        c.snapshot_of-snapshot.ensures ∙ ap (λ (ts : List OpenTxn). snapshot_in c.args.txn (map plain ts)) c.deref.ensures.value ∙ ap (λ (w : TxnsView). snapshot_of w c.args.txn) c.self.view_is in
+    c.snapshot_of-snapshot.ensures ∙ ap (λ (ts : List OpenTxn). snapshot_in c.args.txn (map plain ts)) c.deref.ensures.value ∙ ap (λ (w : TxnsView). snapshot_of w c.args.txn) c.self.view_is in
     let free : c.free_bytes.result ≡ free_bytes v = c.free_bytes.ensures ∙ ap free_bytes c.seen-seen.ensures in
     let added : Record = record_of c.args.txn c.args.key c.args.change.now in
     let size : records_size (added ∷ []) ≡ c.change_record_size.result = omega (arith, c.change_record_size.ensures.size c.args.txn c.args.key) in

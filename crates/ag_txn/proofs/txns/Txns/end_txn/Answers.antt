@@ -9,5 +9,5 @@ pub add_end-requires-clause-listed : goal.add_end-requires-clause-listed
 add_end-requires-clause-listed c =
     let pages : ℕ = c.args.self.now.pages in
     let listed_is : c.as_slice.result.now ≡ filter (λ p. contains p c.touched_by-touched.result) (page_numbers pages) =
-        c.as_slice.ensures.value ∙ c.in_ok-listed.ensures ∙ (λ i. filter (λ p. contains p c.touched_by-touched.result) (page_numbers (c.self.view_is i).pages)) in
+    c.as_slice.ensures.value ∙ c.in_ok-listed.ensures ∙ (λ i. filter (λ p. contains p c.touched_by-touched.result) (page_numbers (c.self.view_is i).pages)) in
     subst (AllByRecursion (IsPage pages)) (sym listed_is) (passing_in pages (λ p. contains p c.touched_by-touched.result))
