@@ -1,8 +1,8 @@
 -- The pages that records touch, and what adding records leaves.
-use Rattle.std.proofs.Common.{◌≡◌, ◌≢◌, ℕ, zero, suc, ◌+◌, ◌-◌, ◌<◌, ◌≤◌, Bool, true, false, cond, ◌||◌, ◌&&◌, eqb, List, [], ◌∷◌, ◌++◌, length, get_or, set, map, refl, sym, ap, ap₂, subst, ◌∙◌, inl, inr, ◌⊎◌, arith, ne_eqb, length-set}
-use Rattle.std.specs.Prelude.{Option, Some, None, ◌%◌, not}
-use Rattle.std.specs.List.{AllByRecursion, filter, filter_map, cons_option, list_any, range_with_len}
-use Rattle.std.specs.Option.{option_map, unwrap_or}
+use Rattle.std.proofs.Common.{◌≡◌, ◌≢◌, ℕ, zero, suc, ◌+◌, ◌-◌, ◌<◌, ◌≤◌, Bool, true, false, cond, ◌||◌, ◌&&◌, eqb, List, [], ◌∷◌, ◌++◌, length, get_or, set, map, refl, sym, ap, ap₂, ◌∙◌, inl, inr, ◌⊎◌, arith, ne_eqb, length-set}
+use Rattle.std.specs.Prelude.{Option, Some, None, ◌%◌}
+use Rattle.std.specs.List.{AllByRecursion, filter, cons_option, list_any, range_with_len}
+use Rattle.std.specs.Option.{option_map}
 use Rattle.std.proofs.Math.Bool.{and-true, and-false, or-false}
 use Rattle.std.proofs.lemmas.Bool.{cases_Bool, eqb-true, eq-eqb, false≢true}
 use Rattle.std.proofs.lemmas.Bool.Decides.{eqb_tells}
@@ -19,9 +19,8 @@ use Rattle.ag_model.specs.Rows.{contains, touches, page_of, page_numbers}
 use Rattle.ag_rules.specs.SetEvent.{pages_of_pairs, records_of_set}
 use Rattle.ag_stripe.specs.Redo.{after_record}
 use Rattle.ag_txn.specs.declared.copies.FreshCopy.{FreshCopy}
-use Rattle.ag_txn.specs.Fresh.{IsPage, kept_all, fresh_of, fresh_copies, OnlyTouch}
-use Rattle.ag_txn.specs.Changes.{with_set}
-use Rattle.ag_txn.specs.View.{TxnsView, Copies, copy_of, with_copy, page_after, page_after_all, copies_after_all, full_end, seen, with_seen, with_records}
+use Rattle.ag_txn.specs.Fresh.{IsPage, kept_all, fresh_copies, OnlyTouch}
+use Rattle.ag_txn.specs.View.{TxnsView, Copies, copy_of, with_copy, page_after_all, copies_after_all, full_end, seen, with_seen, with_records}
 use Rattle.ag_txn.proofs.Copied.{after_all_at, after_all_length, kept_after}
 
 -- the page of a key is one

@@ -1,7 +1,6 @@
 -- Checks in order.
 use Rattle.std.proofs.Common.{◌≡◌, Bool, true, false, cond, List, [], ◌∷◌, ap, ◌∙◌, sym}
-use Rattle.std.specs.Prelude.{Option, Some}
-use Rattle.ag_model.specs.declared.answer.Refusal.{Refusal}
+use Rattle.std.specs.Prelude.{Some}
 use Rattle.ag_rules.specs.Plan.{Check}
 use Rattle.ag_txn.specs.declared.fault.TxnFault.{TxnFault}
 use Rattle.ag_txn.specs.Faults.{refusal_of, first_refusal}

@@ -1,20 +1,18 @@
 -- What the calls leave.
-use Rattle.std.specs.Prelude.{◌≡◌, ℕ, ◌+◌, ◌-◌, List, [], ◌∷◌, ◌++◌, length, map, get_or, Bool, not, ◌==◌, Option, Some, None}
-use Rattle.std.specs.List.{AllByRecursion, filter, fold}
-use Rattle.std.specs.Option.{IsSome}
+use Rattle.std.specs.Prelude.{ℕ, ◌+◌, ◌-◌, List, [], ◌∷◌, ◌++◌, map, get_or, Bool, not, ◌==◌, Option, Some, None}
+use Rattle.std.specs.List.{filter, fold}
 use Rattle.ag_model.specs.declared.value.Change.{Change}
 use Rattle.ag_model.specs.declared.value.PageValue.{PageValue}
 use Rattle.ag_model.specs.declared.event.Pair.{Pair}
 use Rattle.ag_model.specs.declared.message.Block.{Block}
-use Rattle.ag_model.specs.declared.record.Record.{Record}
 use Rattle.ag_model.specs.declared.record.Record.TheVariants.{Trim}
-use Rattle.ag_model.specs.Rows.{contains, page_of, page_numbers}
+use Rattle.ag_model.specs.Rows.{contains, page_numbers}
 use Rattle.ag_rules.specs.CommitEvent.{end_record}
 use Rattle.ag_rules.specs.Plan.{Check}
 use Rattle.ag_txn.specs.Checks.{buffer_is_full}
 use Rattle.ag_rules.specs.PutEvent.{record_of}
 use Rattle.ag_rules.specs.SetEvent.{records_of_set}
-use Rattle.ag_txn.specs.View.{TxnsView, copy_of, full_end, touching, with_records, with_seen}
+use Rattle.ag_txn.specs.View.{TxnsView, full_end, touching, with_records, with_seen}
 use Rattle.ag_txn.specs.declared.opened.OpenTxn.{OpenTxn}
 
 -- the pair at a place of a list

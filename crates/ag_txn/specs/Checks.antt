@@ -11,7 +11,7 @@ use Rattle.ag_rules.specs.Promotion.{is_spent}
 use Rattle.ag_rules.specs.GetEvent.{snapshot_in}
 use Rattle.ag_rules.specs.PutEvent.{record_of, is_locked, conflicts, page_is_full}
 use Rattle.ag_rules.specs.TrimEvent.{trims_some}
-use Rattle.ag_txn.specs.View.{TxnsView, open_txns, seen}
+use Rattle.ag_txn.specs.View.{TxnsView, open_txns}
 
 -- the snapshot of an open transaction
 abbrev pub snapshot_of : TxnsView → ℕ → ℕ

@@ -1,5 +1,5 @@
 -- Why a call is refused, as the rules have it.
-use Rattle.std.specs.Prelude.{◌≡◌, ◌≢◌, ℕ, List, [], ◌∷◌, Bool, true, false, if◌then◌else◌, Option, Some, None, Result, Ok, Err, MatchResult}
+use Rattle.std.specs.Prelude.{◌≡◌, ◌≢◌, List, [], ◌∷◌, true, false, if◌then◌else◌, Option, Some, None, Result, Ok, Err, MatchResult}
 use Rattle.ag_model.specs.declared.answer.Refusal.{Refusal}
 use Rattle.ag_model.specs.declared.answer.Refusal.TheVariants.{Locked as LockedHere, Conflict as ConflictHere, PageFull as PageFullHere, BufferFull as BufferFullHere, Held as HeldHere, Spent as SpentHere, Nothing as NothingHere}
 use Rattle.ag_rules.specs.Plan.{Check}

@@ -3,7 +3,6 @@ use Rattle.std.specs.Prelude.{◌≡◌, ℕ, ◌+◌, ◌<◌, ◌≤◌, List,
 use Rattle.std.specs.List.{filter_map, list_any}
 use Rattle.std.specs.Option.{option_map}
 use Rattle.ag_model.specs.declared.record.Record.{Record}
-use Rattle.ag_model.specs.declared.value.PageValue.{PageValue}
 use Rattle.ag_model.specs.Rows.{contains, touches}
 use Rattle.ag_txn.specs.View.{Copies, copy_of, with_copy, page_after_all}
 use Rattle.ag_txn.specs.declared.copies.FreshCopy.{FreshCopy}

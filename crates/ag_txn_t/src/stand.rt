@@ -146,10 +146,7 @@ impl Stand {
     pub fn trim(&mut self, page: u16, horizon: u64, limit: u64) -> Option<Result<u64, TxnFault>> {
         let place = usize::from(page).checked_sub(16)?;
         let page = self.pages.get(place)?;
-        if page.page < 16
-            || page.page - 16 >= self.txns.pages()
-            || self.txns.full_end() > MOST
-        {
+        if page.page < 16 || page.page - 16 >= self.txns.pages() || self.txns.full_end() > MOST {
             return None;
         }
         Some(self.txns.trim(page, horizon, limit))

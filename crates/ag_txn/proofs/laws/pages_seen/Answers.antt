@@ -1,11 +1,10 @@
-use Rattle.std.proofs.Common.{◌≡◌, ◌+◌, ◌++◌, ℕ, List, length, ap, sym, subst, ◌∙◌, length-append}
+use Rattle.std.proofs.Common.{◌≡◌, ◌++◌, ℕ, List, length, ap, sym, subst, ◌∙◌, length-append}
 use Rattle.std.specs.Prelude.{unwrap_or}
 use Rattle.ag_model.specs.declared.record.Record.{Record}
-use Rattle.ag_model.specs.declared.value.PageValue.{PageValue}
 use Rattle.ag_model.specs.Page.{value}
-use Rattle.ag_rules.specs.Replica.{records, effective}
+use Rattle.ag_rules.specs.Replica.{records}
 use Rattle.ag_version.specs.Steps.{AreProper}
-use Rattle.ag_txn.specs.View.{copy_of, seen}
+use Rattle.ag_txn.specs.View.{copy_of}
 use Rattle.ag_txn.proofs.Effects.{seen-is, number-is}
 use Rattle.ag_txn.proofs.laws.pages_seen.Goals as goal
 

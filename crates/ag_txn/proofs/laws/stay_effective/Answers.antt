@@ -1,4 +1,4 @@
-use Rattle.std.proofs.Common.{◌≡◌, ◌∙◌, ◌-◌, replicate, map, length}
+use Rattle.std.proofs.Common.{◌∙◌, ◌-◌, replicate, map}
 use Rattle.std.specs.Prelude.{None, Option}
 use Rattle.std.proofs.lemmas.List.{length-map, length-replicate}
 use Rattle.ag_model.specs.declared.value.PageValue.{PageValue}

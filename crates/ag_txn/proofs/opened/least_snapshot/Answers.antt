@@ -1,4 +1,4 @@
-use Rattle.std.proofs.Common.{◌≡◌, ◌≤◌, ◌<◌, ◌∙◌, [], ap, length, arith}
+use Rattle.std.proofs.Common.{◌≤◌, ◌∙◌, [], ap, length, arith}
 use Rattle.ag_rules.specs.Replica.{least}
 use Rattle.ag_txn.specs.declared.opened.OpenTxn.{OpenTxn}
 use Rattle.ag_txn.proofs.Lists.{some_first, least-all, snapshots_plain}

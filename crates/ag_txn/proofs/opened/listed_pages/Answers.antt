@@ -1,4 +1,3 @@
-use Rattle.std.proofs.Common.{ℕ}
 use Rattle.ag_model.specs.Rows.{contains}
 use Rattle.ag_txn.proofs.Added.{listed_more}
 use Rattle.ag_txn.proofs.opened.listed_pages.Goals as goal

@@ -1,4 +1,4 @@
-use Rattle.std.proofs.Common.{◌≡◌, ◌&&◌, eqb, Bool, List, sym, ap, length, ◌∷◌, ◌∙◌, ◌<◌, arith}
+use Rattle.std.proofs.Common.{◌&&◌, eqb, List, sym, ap, length, ◌∙◌, ◌<◌, arith}
 use Rattle.std.specs.Prelude.{not, Some}
 use Rattle.std.proofs.lemmas.Bool.{lt-ltb}
 use Rattle.ag_model.specs.declared.value.Version.{Version}

@@ -1,7 +1,6 @@
 use Rattle.std.proofs.Common.{◌≡◌, ◌++◌, ◌+◌, ap, sym, ◌∙◌, length, length-append, arith}
 use Rattle.std.proofs.lemmas.List.Sums.{sum_by-append}
 use Rattle.ag_model.specs.Sizes.{record_size}
-use Rattle.ag_txn.specs.Fresh.{kept_all}
 use Rattle.ag_model.specs.Sizes.{records_size}
 use Rattle.ag_txn.specs.View.{TxnsView, full_end}
 use Rattle.ag_txn.proofs.Copied.{kept_length}

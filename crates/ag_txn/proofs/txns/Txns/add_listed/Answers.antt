@@ -1,8 +1,7 @@
-use Rattle.std.proofs.Common.{◌≡◌, ◌+◌, ℕ, List, subst, sym, ap, ◌∙◌}
+use Rattle.std.proofs.Common.{◌≡◌, ◌+◌, ℕ, subst, sym, ap, ◌∙◌}
 use Rattle.std.specs.List.{AllByRecursion}
 use Rattle.ag_txn.specs.declared.copies.FreshCopy.{FreshCopy}
 use Rattle.ag_txn.specs.Fresh.{IsPage, fresh_copies}
-use Rattle.ag_txn.specs.View.{TxnsView}
 use Rattle.ag_txn.proofs.Added.{fresh_in, records_added}
 use Rattle.ag_txn.proofs.txns.Txns.add_listed.Goals as goal
 

@@ -1,4 +1,4 @@
-use Rattle.std.proofs.Common.{◌≡◌, ◌+◌, ◌++◌, ◌∷◌, [], length, ℕ, List, subst, sym, ap, ◌∙◌}
+use Rattle.std.proofs.Common.{◌≡◌, ◌+◌, ◌++◌, ◌∷◌, [], length, ℕ, List, subst, ap, ◌∙◌}
 use Rattle.ag_txn.specs.declared.copies.FreshCopy.{FreshCopy}
 use Rattle.ag_txn.specs.View.{TxnsView, page_after_all, seen}
 use Rattle.ag_txn.proofs.Added.{one_added}

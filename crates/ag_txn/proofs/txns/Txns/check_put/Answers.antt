@@ -1,4 +1,4 @@
-use Rattle.std.proofs.Common.{◌≡◌, false, List, subst, sym, ap, ◌∙◌, ℕ, [], ◌∷◌, map, arith}
+use Rattle.std.proofs.Common.{◌≡◌, false, List, subst, sym, ap, ◌∙◌, [], ◌∷◌, map, arith}
 use Rattle.std.specs.Prelude.{nat_lt}
 use Rattle.ag_model.specs.declared.value.Version.{Version}
 use Rattle.ag_model.specs.declared.value.PageValue.{PageValue}

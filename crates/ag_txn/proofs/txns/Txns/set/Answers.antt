@@ -1,9 +1,8 @@
-use Rattle.std.proofs.Common.{◌≡◌, ◌+◌, ◌<◌, ℕ, List, subst, sym, ap, ◌∙◌, arith}
+use Rattle.std.proofs.Common.{◌≡◌, ◌+◌, ◌<◌, ℕ, subst, sym, ap, ◌∙◌, arith}
 use Rattle.std.specs.List.{AllByRecursion, list_any}
 use Rattle.ag_model.specs.Rows.{contains, touches}
-use Rattle.ag_model.specs.declared.record.Record.{Record}
 use Rattle.ag_rules.specs.SetEvent.{pages_of_pairs, records_of_set}
-use Rattle.ag_txn.specs.Fresh.{IsPage, OnlyTouch}
+use Rattle.ag_txn.specs.Fresh.{IsPage}
 use Rattle.ag_txn.specs.View.{TxnsView}
 use Rattle.ag_txn.proofs.Added.{pages_in, set_touches}
 use Rattle.ag_txn.proofs.txns.Txns.set.Goals as goal
