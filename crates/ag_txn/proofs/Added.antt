@@ -61,7 +61,8 @@ range_push a zero = ap (λ (k : ℕ). k ∷ []) (omega arith)
 range_push a (suc n) = ap (λ (l : List ℕ). a ∷ l) (range_push (a + 1) n ∙ ap (λ (k : ℕ). range_with_len (a + 1) n ++ k ∷ []) (omega arith))
 
 -- one more data page
-pub listed_more : (f : ℕ → Bool) (page : ℕ) (there : Bool) (old new : List ℕ) → 16 ≤ page → old ≡ filter f (range_with_len 16 (page - 16)) → there ≡ f page → new ≡ old ++ cond there (page ∷ []) [] → new ≡ filter f (range_with_len 16 (page + 1 - 16))
+pub listed_more : (f : ℕ → Bool) (page : ℕ) (there : Bool) (old new : List ℕ) → 16 ≤ page → old ≡ filter f (range_with_len 16 (page - 16)) → there ≡ f page
+    → new ≡ old ++ cond there (page ∷ []) [] → new ≡ filter f (range_with_len 16 (page + 1 - 16))
 listed_more f page there old new low so_far is added =
     let next : page + 1 - 16 ≡ suc (page - 16) = omega arith in
     let last : 16 + (page - 16) ≡ page = omega arith in
@@ -74,12 +75,14 @@ pub pages_in : (pages : ℕ) (pairs : List Pair) → AllByRecursion (IsPage page
 pages_in pages pairs = all_filter (IsPage pages) (λ p. list_any (λ (pair : Pair). eqb (page_of pages pair.key) p) pairs) (page_numbers pages) (range_in pages 16 pages (omega arith) (omega arith))
 
 -- fresh copies are of the pages that are listed
-pub fresh_in : (pages first : ℕ) (rs : List Record) (copies : Copies) (listed : List ℕ) → AllByRecursion (IsPage pages) listed → AllByRecursion (λ (f : FreshCopy). IsPage pages f.page) (fresh_copies pages first rs copies listed)
+pub fresh_in : (pages first : ℕ) (rs : List Record) (copies : Copies) (listed : List ℕ) → AllByRecursion (IsPage pages) listed
+    → AllByRecursion (λ (f : FreshCopy). IsPage pages f.page) (fresh_copies pages first rs copies listed)
 fresh_in pages first rs copies [] own = tt
 fresh_in pages first rs copies (p ∷ ps) own = by_copy (copy_of copies p) (fresh_in pages first rs copies ps own.1)
   where
     by_copy : (o : Option PageValue) → AllByRecursion (λ (f : FreshCopy). IsPage pages f.page) (fresh_copies pages first rs copies ps)
-        → AllByRecursion (λ (f : FreshCopy). IsPage pages f.page) (cons_option (option_map (λ v. record { page = p; copy = page_after_all pages first rs p v }) o) (fresh_copies pages first rs copies ps))
+        → AllByRecursion (λ (f : FreshCopy). IsPage pages f.page)
+        (cons_option (option_map (λ v. record { page = p; copy = page_after_all pages first rs p v }) o) (fresh_copies pages first rs copies ps))
     by_copy None rest = rest
     by_copy (Some v) rest = (own.0, rest)
 
@@ -121,7 +124,8 @@ set_touches pages txn pairs some page off =
     ]
 
 -- fresh copies of the pages that records touch, and these records
-pub records_added : (t : TxnsView) (new : List Record) (fresh : List FreshCopy) (listed : List ℕ) (first : ℕ) → first ≡ full_end t + 1 → AllByRecursion (IsPage t.pages) listed → OnlyTouch t.pages listed new
+pub records_added : (t : TxnsView) (new : List Record) (fresh : List FreshCopy) (listed : List ℕ) (first : ℕ) → first ≡ full_end t + 1 → AllByRecursion (IsPage t.pages) listed
+    → OnlyTouch t.pages listed new
     → fresh ≡ fresh_copies t.pages first new t.copies listed → record t { buffer = t.buffer ++ new; copies = kept_all fresh t.copies } ≡ with_records t new
 records_added t new fresh listed first at own touch is =
     let all : kept_all fresh t.copies ≡ copies_after_all t.pages (full_end t + 1) new t.copies =
@@ -142,7 +146,8 @@ one_after pages page lsn r v copies low high touch = ext_get_or None _ _
     stays i None off = refl
     stays i (Some w) off = ap Some (sym (ap (λ (b : Bool). cond b (after_record lsn r w) w) off))
 
-    slot : (i : ℕ) → (eqb (16 + i) page ≡ true) ⊎ (eqb (16 + i) page ≡ false) → get_or (with_copy page new copies) i None ≡ option_map (page_after_all pages lsn (r ∷ []) (16 + i)) (get_or (with_copy page v copies) i None)
+    slot : (i : ℕ) → (eqb (16 + i) page ≡ true) ⊎ (eqb (16 + i) page ≡ false)
+        → get_or (with_copy page new copies) i None ≡ option_map (page_after_all pages lsn (r ∷ []) (16 + i)) (get_or (with_copy page v copies) i None)
     slot i (inl t) =
         let at : 16 + i ≡ page = eqb-true (16 + i) page t in
         let place : page - 16 ≡ i = omega arith in
@@ -157,7 +162,8 @@ one_after pages page lsn r v copies low high touch = ext_get_or None _ _
         ∙ ap (option_map (page_after_all pages lsn (r ∷ []) (16 + i))) (sym (get_or-set_other copies (page - 16) i (Some v) None ne))
 
 -- the same of all
-pub one_added : (t : TxnsView) (v : PageValue) (r : Record) (new : List Record) (fresh : List FreshCopy) (copy : PageValue) (lsn : ℕ) → length t.copies ≡ t.pages → IsPage t.pages v.page → ((p : ℕ) → touches t.pages p r ≡ eqb p v.page)
+pub one_added : (t : TxnsView) (v : PageValue) (r : Record) (new : List Record) (fresh : List FreshCopy) (copy : PageValue) (lsn : ℕ) → length t.copies ≡ t.pages → IsPage t.pages v.page
+    → ((p : ℕ) → touches t.pages p r ≡ eqb p v.page)
     → lsn ≡ full_end t + 1 → new ≡ r ∷ [] → copy ≡ page_after_all t.pages lsn new v.page (seen t v) → fresh ≡ record { page = v.page; copy = copy } ∷ []
     → record t { buffer = t.buffer ++ new; copies = kept_all fresh t.copies } ≡ with_records (with_seen t v) (r ∷ [])
 one_added t v r new fresh copy lsn long own touch at one made is =

@@ -16,7 +16,8 @@ use Rattle.ag_txn.specs.Fresh.{IsPage, kept_all, fresh_of, fresh_copies, OnlyTou
 use Rattle.ag_txn.specs.View.{Copies, copy_of, with_copy, page_after, page_after_all, copy_after, copies_after, copies_after_all}
 
 -- one slot after a record
-after_at : (pages lsn : ℕ) (r : Record) (n : ℕ) (copies : Copies) (i : ℕ) → get_or (map (copy_after pages lsn r) (enumerate_from n copies)) i None ≡ option_map (page_after pages lsn r (n + i)) (get_or copies i None)
+after_at : (pages lsn : ℕ) (r : Record) (n : ℕ) (copies : Copies) (i : ℕ)
+    → get_or (map (copy_after pages lsn r) (enumerate_from n copies)) i None ≡ option_map (page_after pages lsn r (n + i)) (get_or copies i None)
 after_at pages lsn r n [] i = refl
 after_at pages lsn r n (c ∷ cs) zero = ap (λ (k : ℕ). option_map (page_after pages lsn r k) c) (omega arith)
 after_at pages lsn r n (c ∷ cs) (suc i) = after_at pages lsn r (n + 1) cs i ∙ ap (λ (k : ℕ). option_map (page_after pages lsn r k) (get_or cs i None)) (omega arith)
@@ -30,7 +31,8 @@ map_none None = refl
 map_none (Some v) = refl
 
 -- one slot after records
-pub after_all_at : (pages lsn : ℕ) (rs : List Record) (copies : Copies) (i : ℕ) → get_or (copies_after_all pages lsn rs copies) i None ≡ option_map (page_after_all pages lsn rs (16 + i)) (get_or copies i None)
+pub after_all_at : (pages lsn : ℕ) (rs : List Record) (copies : Copies) (i : ℕ)
+    → get_or (copies_after_all pages lsn rs copies) i None ≡ option_map (page_after_all pages lsn rs (16 + i)) (get_or copies i None)
 after_all_at pages lsn [] copies i = sym (map_none (get_or copies i None))
 after_all_at pages lsn (r ∷ rs) copies i =
     after_all_at pages (lsn + 1) rs (copies_after pages lsn r copies) i
@@ -73,7 +75,8 @@ kept_long f old new kept = ap length kept ∙ length-set old (f.page - 16) (Some
 
 -- one more page of a list
 pub fresh_more : (pages first : ℕ) (rs : List Record) (copies : Copies) (listed : List ℕ) (i : ℕ) (fresh new : List FreshCopy) (next : Option FreshCopy) → i < length listed
-    → fresh ≡ fresh_copies pages first rs copies (take i listed) → next ≡ fresh_of pages first rs copies (get_or listed i 0) → new ≡ fresh ++ option_to_list next → new ≡ fresh_copies pages first rs copies (take (i + 1) listed)
+    → fresh ≡ fresh_copies pages first rs copies (take i listed) → next ≡ fresh_of pages first rs copies (get_or listed i 0) → new ≡ fresh ++ option_to_list next → new ≡ fresh_copies
+    pages first rs copies (take (i + 1) listed)
 fresh_more pages first rs copies listed i fresh new next lt so_far is added =
     let g = fresh_of pages first rs copies in
     added ∙ (λ j. so_far j ++ option_to_list (is j)) ∙ ap (λ (l : List FreshCopy). filter_map g (take i listed) ++ l) (one g (get_or listed i 0))
@@ -110,7 +113,8 @@ how_rest pages first rs copies i p ps e (inr h) = inr h
 kept_other : (pages first : ℕ) (rs : List Record) (copies rest : Copies) (i p : ℕ) (fs : List FreshCopy) (o : Option PageValue) → i ≢ p - 16 → kept_all fs copies ≡ rest
     → get_or (kept_all (cons_option (option_map (λ v. record { page = p; copy = page_after_all pages first rs p v }) o) fs) copies) i None ≡ get_or rest i None
 kept_other pages first rs copies rest i p fs None ne e = ap (λ (cs : Copies). get_or cs i None) e
-kept_other pages first rs copies rest i p fs (Some v) ne e = get_or-set_other (kept_all fs copies) (p - 16) i (Some (page_after_all pages first rs p v)) None ne ∙ ap (λ (cs : Copies). get_or cs i None) e
+kept_other pages first rs copies rest i p fs (Some v) ne e = get_or-set_other (kept_all fs copies) (p - 16) i (Some (page_after_all pages first rs p v)) None ne ∙ ap
+    (λ (cs : Copies). get_or cs i None) e
 
 -- one page of the list, whose slot it is
 kept_own : (pages first : ℕ) (rs : List Record) (copies : Copies) (i p : ℕ) (fs : List FreshCopy) (o : Option PageValue) → 16 + i ≡ p → i < length copies → get_or copies i None ≡ o

@@ -46,11 +46,18 @@ at-front [] rest r = refl
 at-front (x ∷ front) rest r = at-front front rest r
 
 -- one record takes a page on to its value after it
-step : (pages page n : ℕ) (log : List Record) (r : Record) (v : PageValue) → 16 ≤ page → page < 16 + pages → AreProper pages log → IsAt log (n + 1) r → v ≡ value pages log n page → page_after pages (n + 1) r page v ≡ value pages log (n + 1) page
+step : (pages page n : ℕ) (log : List Record) (r : Record) (v : PageValue) → 16 ≤ page → page < 16 + pages → AreProper pages log → IsAt log (n + 1) r → v ≡ value pages log n page
+    → page_after pages (n + 1) r page v ≡ value pages log (n + 1) page
 step pages page n log r v low high proper at is = elim (cases_Bool (touches pages page r)) [
   | inl on ↦
       (let same : v.page ≡ page = ap (λ (w : PageValue). w.page) is ∙ number-is pages n page log in
-      let due : IsDue pages log (n + 1) r v = record { proper = proper; here = at; touched = ap (λ (p : ℕ). touches pages p r) same ∙ on; before = is ∙ (let back = sym same in λ i. value pages log (less i) (back i)) } in
+      let due : IsDue pages log (n + 1) r v = record {
+        proper = proper;
+        here = at;
+        touched = ap (λ (p : ℕ). touches pages p r) same ∙ on;
+        before = is ∙
+            (let back = sym same in λ i. value pages log (less i) (back i));
+      } in
       ap (λ (b : Bool). cond b (after_record (n + 1) r v) v) on ∙ after-is pages (n + 1) log r v due ∙ ap (value pages log (n + 1)) same)
   | inr off ↦
       ap (λ (b : Bool). cond b (after_record (n + 1) r v) v) off ∙ is
@@ -115,7 +122,8 @@ copied-effective pages page log buffer copies h proper low high = record {
   values = λ p v l u e. elim (eqb_tells p page) [
     | inl same ↦
         (let place : p - 16 ≡ page - 16 = ap (λ (n : ℕ). n - 16) same.1 in
-        let here : ◌≡◌ {A = Option PageValue} (Some w) (Some v) = sym (ap (λ (n : ℕ). get_or (set copies (page - 16) (Some w)) n None) place ∙ get_or-set_same copies (page - 16) (Some w) None inside) ∙ e in
+        let here : ◌≡◌ {A = Option PageValue} (Some w) (Some v) = sym
+        (ap (λ (n : ℕ). get_or (set copies (page - 16) (Some w)) n None) place ∙ get_or-set_same copies (page - 16) (Some w) None inside) ∙ e in
         let is : w ≡ v = cc in
         sym is ∙ seen-is pages page log buffer copies h proper low high ∙ ap (value pages (log ++ buffer) (length (log ++ buffer))) (sym same.1))
     | inr other ↦ h.values p v l u (sym (away p l other.1) ∙ e)
@@ -123,7 +131,8 @@ copied-effective pages page log buffer copies h proper low high = record {
   touched = λ p l u e. elim (eqb_tells p page) [
     | inl same ↦
         (let place : p - 16 ≡ page - 16 = ap (λ (n : ℕ). n - 16) same.1 in
-        let here : ◌≡◌ {A = Option PageValue} (Some w) None = sym (ap (λ (n : ℕ). get_or (set copies (page - 16) (Some w)) n None) place ∙ get_or-set_same copies (page - 16) (Some w) None inside) ∙ e in
+        let here : ◌≡◌ {A = Option PageValue} (Some w) None = sym
+        (ap (λ (n : ℕ). get_or (set copies (page - 16) (Some w)) n None) place ∙ get_or-set_same copies (page - 16) (Some w) None inside) ∙ e in
         absurd (cc))
     | inr other ↦ h.touched p l u (sym (away p l other.1) ∙ e)
   ];
@@ -156,7 +165,8 @@ added-effective pages log buffer new copies h proper have = record {
     at : (page : ℕ) → 16 ≤ page → copy_of (copies_after_all pages first new copies) page ≡ option_map (page_after_all pages first new page) (copy_of copies page)
     at page low = after_all_at pages first new copies (page - 16) ∙ ap (λ (p : ℕ). option_map (page_after_all pages first new p) (copy_of copies page)) (omega arith)
 
-    by_copy : (page : ℕ) (v : PageValue) → 16 ≤ page → page < 16 + pages → (o : Option PageValue) → copy_of copies page ≡ o → option_map (page_after_all pages first new page) o ≡ Some v → v ≡ value pages whole (length whole) page
+    by_copy : (page : ℕ) (v : PageValue) → 16 ≤ page → page < 16 + pages → (o : Option PageValue) → copy_of copies page ≡ o → option_map (page_after_all pages first new page) o ≡ Some v
+        → v ≡ value pages whole (length whole) page
     by_copy page v low high None e is = absurd (cc)
     by_copy page v low high (Some u) e is =
         let made : page_after_all pages first new page u ≡ v = cc in
@@ -168,7 +178,8 @@ added-effective pages log buffer new copies h proper have = record {
         sym made ∙ along pages page (length log + length buffer) whole (log ++ buffer) new u low high proper split long before
         ∙ ap (λ (m : ℕ). value pages whole m page) (omega (arith, length-append log (buffer ++ new), length-append buffer new))
 
-    by_none : (page : ℕ) → 16 ≤ page → page < 16 + pages → (o : Option PageValue) → copy_of copies page ≡ o → option_map (page_after_all pages first new page) o ≡ None → list_any (touches pages page) (buffer ++ new) ≡ false
+    by_none : (page : ℕ) → 16 ≤ page → page < 16 + pages → (o : Option PageValue) → copy_of copies page ≡ o → option_map (page_after_all pages first new page) o ≡ None
+        → list_any (touches pages page) (buffer ++ new) ≡ false
     by_none page low high None e is = list_any-append (touches pages page) buffer new ∙ ap₂ (λ (a b : Bool). a || b) (h.touched page low high e) (have page low high e)
     by_none page low high (Some u) e is = absurd (cc)
 

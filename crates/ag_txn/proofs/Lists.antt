@@ -8,7 +8,8 @@ use Rattle.ag_txn.specs.View.{plain}
 use Rattle.ag_txn.specs.declared.opened.OpenTxn.{OpenTxn}
 
 -- where none of the first elements passes, and the next one does, it is the first that is left
-pub filter_first : {X : Type 0} (p : X → Bool) (xs : List X) (i : ℕ) (d : X) → i < length xs → filter p (take i xs) ≡ [] → p (get_or xs i d) ≡ true → filter p xs ≡ get_or xs i d ∷ filter p (drop (suc i) xs)
+pub filter_first : {X : Type 0} (p : X → Bool) (xs : List X) (i : ℕ) (d : X) → i < length xs → filter p (take i xs) ≡ [] → p (get_or xs i d) ≡ true
+    → filter p xs ≡ get_or xs i d ∷ filter p (drop (suc i) xs)
 filter_first p [] i d lt none here = absurd (omega arith)
 filter_first p (x ∷ xs) zero d lt none here = ap (λ (b : Bool). cond b (x ∷ filter p xs) (filter p xs)) here
 filter_first p (x ∷ xs) (suc i) d lt none here = by_test (p x) none (λ e. filter_first p xs i d (omega arith) e here)
@@ -44,7 +45,8 @@ least-all f (x ∷ xs) i n d some le is =
     is ∙ ap (λ (l : List _). fold min (f x) (map f l)) (take_all i (x ∷ xs) le) ∙ ap (λ m. fold min m (map f xs)) same ∙ sym (least-fold (f x) (map f xs))
 
 -- a loop that writes f x over each element x
-pub each-more : {X : Type 0} (f : X → X) (xs ys : List X) (i : ℕ) (d : X) → i < length xs → ys ≡ map f (take i xs) ++ drop i xs → set ys i (f (get_or ys i d)) ≡ map f (take (i + 1) xs) ++ drop (i + 1) xs
+pub each-more : {X : Type 0} (f : X → X) (xs ys : List X) (i : ℕ) (d : X) → i < length xs → ys ≡ map f (take i xs) ++ drop i xs
+    → set ys i (f (get_or ys i d)) ≡ map f (take (i + 1) xs) ++ drop (i + 1) xs
 each-more f xs ys i d lt is =
     let e : suc i ≡ i + 1 = omega arith in
     ap (λ (l : List _). set l i (f (get_or l i d))) is ∙ step xs i lt ∙ (λ j. map f (take (e j) xs) ++ drop (e j) xs)

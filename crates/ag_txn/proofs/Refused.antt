@@ -14,7 +14,8 @@ pub first_check : (c : Check) (cs : List Check) (e : TxnFault) → (c.when ≡ t
 first_check c cs e h = h.1 ∙ sym (ap (λ (b : Bool). cond b (Some c.refusal) (first_refusal cs)) h.0)
 
 -- the last of four checks holds
-pub fourth_check : (a b c d : Check) (e : TxnFault) → a.when ≡ false → b.when ≡ false → c.when ≡ false → (d.when ≡ true) × (refusal_of e ≡ Some d.refusal) → refusal_of e ≡ first_refusal (a ∷ b ∷ c ∷ d ∷ [])
+pub fourth_check : (a b c d : Check) (e : TxnFault) → a.when ≡ false → b.when ≡ false → c.when ≡ false → (d.when ≡ true) × (refusal_of e ≡ Some d.refusal)
+    → refusal_of e ≡ first_refusal (a ∷ b ∷ c ∷ d ∷ [])
 fourth_check a b c d e x y z h = first_check d [] e h ∙ sym (next_check a (b ∷ c ∷ d ∷ []) x ∙ next_check b (c ∷ d ∷ []) y ∙ next_check c (d ∷ []) z)
 
 -- the last of three checks holds

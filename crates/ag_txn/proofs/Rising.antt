@@ -92,10 +92,12 @@ pages_of_none pages = none_pass 16 pages
 pub pages_of_more : (pages : ℕ) (pairs : List Pair) (pair : Pair) → 0 < pages → pages_of_pairs pages (pairs ++ pair ∷ []) ≡ insert_rising (pages_of_pairs pages pairs) (page_of pages pair.key)
 pages_of_more pages pairs pair h =
     simp (list_any-append, or-false)
-    (sym (insert_in_range (λ p. list_any (λ (q : Pair). page_of pages q.key == p) pairs) (page_of pages pair.key) 16 pages (omega arith) (let m : pair.key % pages < pages = mod_below pair.key pages h in omega arith)))
+    (sym (insert_in_range (λ p. list_any (λ (q : Pair). page_of pages q.key == p) pairs) (page_of pages pair.key) 16 pages (omega arith)
+    (let m : pair.key % pages < pages = mod_below pair.key pages h in omega arith)))
 
 -- the pages ys of the first i pairs become those of one pair more
-pub pages_of_next : (pages : ℕ) (pairs : List Pair) (i : ℕ) (d : Pair) (ys zs : List ℕ) (page : ℕ) → 0 < pages → i < length pairs → zs ≡ insert_rising ys page → ys ≡ pages_of_pairs pages (take i pairs) → page ≡ page_of pages (get_or pairs i d).key → zs ≡ pages_of_pairs pages (take (i + 1) pairs)
+pub pages_of_next : (pages : ℕ) (pairs : List Pair) (i : ℕ) (d : Pair) (ys zs : List ℕ) (page : ℕ) → 0 < pages → i < length pairs → zs ≡ insert_rising ys page
+    → ys ≡ pages_of_pairs pages (take i pairs) → page ≡ page_of pages (get_or pairs i d).key → zs ≡ pages_of_pairs pages (take (i + 1) pairs)
 pages_of_next pages pairs i d ys zs page h l put so_far is =
     put
     ∙ ap (λ ps. insert_rising ps page) so_far

@@ -8,7 +8,8 @@ use Rattle.ag_txn.proofs.laws.stay_effective.Goals as goal
 pub returns : goal.returns
 returns c = record {
   opening = λ pages log. none-effective pages log (replicate pages None) (length-replicate pages None) (λ page. bare-slot pages (page - 16));
-  forgotten = λ pages log copies long. none-effective pages log (map (λ (c : Option PageValue). None) copies) (length-map copies (λ (c : Option PageValue). None) ∙ long) (λ page. let-go copies (page - 16));
+  forgotten = λ pages log copies long. none-effective pages log (map (λ (c : Option PageValue). None) copies) (length-map copies (λ (c : Option PageValue). None) ∙ long)
+      (λ page. let-go copies (page - 16));
   copied = copied-effective;
   added = added-effective;
   hardened = hardened-effective;

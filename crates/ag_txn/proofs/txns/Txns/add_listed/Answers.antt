@@ -17,4 +17,5 @@ returns-clause-ok c =
     let fresh_is : c.in_ok-fresh.fresh.items ≡ fresh_copies c.args.self.now.pages (c.full_end-first.result + 1) c.args.new c.args.self.now.copies c.args.listed.now =
     c.in_ok-fresh.ensures ∙ (λ i. fresh_copies (c.self.view_is i).pages (c.full_end-first.result + 1) (c.as_slice.ensures i) (c.self.view_is i).copies c.args.listed.now) in
     c.in_ok-add.ensures.ok
-    ∙ records_added c.args.self.now c.args.new c.in_ok-fresh.fresh.items c.args.listed.now (c.full_end-first.result + 1) (ap (λ (n : ℕ). n + 1) c.full_end-first.ensures) c.requires.listed c.requires.touches fresh_is
+    ∙ records_added c.args.self.now c.args.new c.in_ok-fresh.fresh.items c.args.listed.now (c.full_end-first.result + 1) (ap (λ (n : ℕ). n + 1) c.full_end-first.ensures)
+    c.requires.listed c.requires.touches fresh_is

@@ -15,4 +15,5 @@ returns-clause-added c =
     let fresh_is : c.push.new.self.items ≡ record { page = page; copy = c.in_ok-copy.copy } ∷ [] =
     c.in_ok-push.ensures.items ∙ ap (λ (l : List FreshCopy). l ++ record { page = page; copy = c.in_ok-copy.copy } ∷ []) c.new-fresh.ensures.items in
     c.in_ok-add.ensures.ok
-    ∙ one_added t c.args.page.now c.args.entry c.in_ok-new.new c.push.new.self.items c.in_ok-copy.copy lsn long c.requires.page c.requires.touches (ap (λ (n : ℕ). n + 1) c.full_end-lsn.ensures) c.in_ok-new.ensures copy_is fresh_is
+    ∙ one_added t c.args.page.now c.args.entry c.in_ok-new.new c.push.new.self.items c.in_ok-copy.copy lsn long c.requires.page c.requires.touches
+    (ap (λ (n : ℕ). n + 1) c.full_end-lsn.ensures) c.in_ok-new.ensures copy_is fresh_is
