@@ -4,3 +4,4 @@ pub mod Copied
 pub mod Added
 pub mod Refused
 pub mod Effects
+pub mod Having

@@ -13,6 +13,7 @@ use std::io;
 fn main(rt: HostRuntime) -> io::Result<()> {
     laws::pages_seen();
     laws::stay_effective();
+    laws::copies_had();
     let alloc = rt.alloc();
     let mut stand = None;
     for line in rt.lines(alloc) {
