@@ -26,7 +26,8 @@ no_copy : {X : Type 0} (o : Option X) → o ≡ None → IsSome o → ⊥
 no_copy o e some = false≢true (sym (ap is_some e) ∙ some)
 
 -- one page, which has a copy
-pub have_one : (pages page : ℕ) (r : Record) (w : PageValue) (copies : Copies) → length copies ≡ pages → page < 16 + pages → 16 ≤ page → ((p : ℕ) → touches pages p r ≡ eqb p page) → HaveCopiesFor pages (with_copy page w copies) (r ∷ [])
+pub have_one : (pages page : ℕ) (r : Record) (w : PageValue) (copies : Copies) → length copies ≡ pages → page < 16 + pages → 16 ≤ page → ((p : ℕ) → touches pages p r ≡ eqb p page)
+    → HaveCopiesFor pages (with_copy page w copies) (r ∷ [])
 have_one pages page r w copies long high low touch p l h none = or-false (touches pages p r) ∙ touch p ∙ elim (cases_Bool (eqb p page)) [
   | inr off ↦ off
   | inl t ↦
@@ -49,7 +50,8 @@ there P (x ∷ xs) p all e = elim (cases_Bool (eqb p x)) [
 ]
 
 -- listed pages, each of which has a copy
-pub have_listed : (pages : ℕ) (listed : List ℕ) (rs : List Record) (copies : Copies) → OnlyTouch pages listed rs → AllByRecursion (λ p. IsSome (copy_of copies p)) listed → HaveCopiesFor pages copies rs
+pub have_listed : (pages : ℕ) (listed : List ℕ) (rs : List Record) (copies : Copies) → OnlyTouch pages listed rs → AllByRecursion (λ p. IsSome (copy_of copies p)) listed
+    → HaveCopiesFor pages copies rs
 have_listed pages listed rs copies touch all p low high none = elim (cases_Bool (contains p listed)) [
   | inr off ↦ touch p off
   | inl on ↦ absurd (no_copy (copy_of copies p) none (there (λ q. IsSome (copy_of copies q)) listed p all on))
@@ -60,12 +62,14 @@ end_touches pages txn true listed p off = or-false (contains p listed) ∙ off
 end_touches pages txn false listed p off = or-false (contains p listed) ∙ off
 
 -- the pages of pairs, each of which has a copy
-pub pairs_have : (pages : ℕ) (pairs : List Pair) (copies : Copies) → AllByRecursion (λ (pair : Pair). IsSome (copy_of copies (page_of pages pair.key))) pairs → AllByRecursion (λ p. IsSome (copy_of copies p)) (pages_of_pairs pages pairs)
+pub pairs_have : (pages : ℕ) (pairs : List Pair) (copies : Copies) → AllByRecursion (λ (pair : Pair). IsSome (copy_of copies (page_of pages pair.key))) pairs
+    → AllByRecursion (λ p. IsSome (copy_of copies p)) (pages_of_pairs pages pairs)
 pairs_have pages pairs copies all =
     all_passing (λ _. Unit {0}) (λ p. IsSome (copy_of copies p)) (λ p. list_any (λ (pair : Pair). eqb (page_of pages pair.key) p) pairs) (λ p u e. of_pair p pairs all e)
     (page_numbers pages) (all_always (λ _. Unit {0}) (λ _. tt) (page_numbers pages))
   where
-    of_pair : (p : ℕ) (ps : List Pair) → AllByRecursion (λ (pair : Pair). IsSome (copy_of copies (page_of pages pair.key))) ps → list_any (λ (pair : Pair). eqb (page_of pages pair.key) p) ps ≡ true → IsSome (copy_of copies p)
+    of_pair : (p : ℕ) (ps : List Pair) → AllByRecursion (λ (pair : Pair). IsSome (copy_of copies (page_of pages pair.key))) ps
+        → list_any (λ (pair : Pair). eqb (page_of pages pair.key) p) ps ≡ true → IsSome (copy_of copies p)
     of_pair p [] h e = absurd (cc)
     of_pair p (q ∷ qs) h e = elim (cases_Bool (eqb (page_of pages q.key) p)) [
       | inl t ↦ subst (λ (n : ℕ). IsSome (copy_of copies n)) (eqb-true (page_of pages q.key) p t) h.0

@@ -33,7 +33,8 @@ pub fn stay_effective()
         → AreEffective pages log buffer (with_copy page (unwrap_or (copy_of copies page) (value pages log (length log) page)) copies) }
 
     // Records go into the buffer, where each page that they touch has a copy.
-    ensures added { (pages : ℕ) (log buffer new : List Record) (copies : Copies) → AreEffective pages log buffer copies → AreProper pages (log ++ (buffer ++ new)) → HaveCopiesFor pages copies new
+    ensures added { (pages : ℕ) (log buffer new : List Record) (copies : Copies) → AreEffective pages log buffer copies → AreProper pages (log ++ (buffer ++ new))
+        → HaveCopiesFor pages copies new
         → AreEffective pages log (buffer ++ new) (copies_after_all pages (length log + length buffer + 1) new copies) }
 
     // The buffer is hardened.
