@@ -48,8 +48,7 @@ module _ (pages page : ℕ) where
           → (b : Bool) → mark_of (fold step f (cond b (e ∷ filter hits entries) (filter hits entries))) ≡ marked f (b || list_any hits entries)
       by_test off on true = on
           ∙ ap (λ (s : Bool). record {
-            dirty = (f.dirty || is_some f.value) ||
-                (s && list_any hits entries);
+            dirty = (f.dirty || is_some f.value) || (s && list_any hits entries);
             pending = f.pending;
             held = held_lsn f.held;
             came = f.came;

@@ -68,8 +68,8 @@ module _ (x lsn : ℕ) (r : Record) where
       let on : (eqb (stripe_of page) x && eqb page page) ≡ true = and_from (eqb (stripe_of page) x) (eqb page page) parts.1 (eq-eqb page page refl) in
       ap (set frames k) (is ∙ ap (redone_frame lsn r) was ∙ sym (ap (λ (b : Bool). cond b (redone_frame lsn r (get_or frames k old)) (get_or frames k old)) on))
       ∙ each-one (redone_where x lsn r (λ q. eqb q page)) page 16 k frames old (omega arith) (omega arith) (λ p f away.
-      ap (λ (b : Bool). cond b (redone_frame lsn r f) f) (false_from_ne_true (eqb (stripe_of p) x && eqb p page) (λ hit. away (eqb-true p page (and_parts (eqb
-      (stripe_of p) x) (eqb p page) hit).1))))
+      ap (λ (b : Bool). cond b (redone_frame lsn r f) f) (false_from_ne_true (eqb (stripe_of p) x && eqb p page)
+      (λ hit. away (eqb-true p page (and_parts (eqb (stripe_of p) x) (eqb p page) hit).1))))
 
   -- pages, and then others
   pub redone-more : (p q both : ℕ → Bool) (start old new : List Frame) → ((n : ℕ) → (p n || q n) ≡ both n) → old ≡ each_from (redone_where x lsn r p) 16 start

@@ -38,8 +38,8 @@ redone-push pages page k (y ∷ rs) r f =
     by_test : ((g : Frame) → redone_by pages page (enumerate_from (k + 1) (rs ++ r ∷ [])) g
         ≡ cond (touches pages page r) (redone_frame (k + 1 + length rs) r (redone_by pages page (enumerate_from (k + 1) rs) g)) (redone_by pages page (enumerate_from (k + 1) rs) g))
         → (b : Bool) → fold step f (cond b ((k, y) ∷ filter (hits pages page) (enumerate_from (k + 1) (rs ++ r ∷ []))) (filter (hits pages page) (enumerate_from (k + 1) (rs ++ r ∷ []))))
-        ≡ cond (touches pages page r) (redone_frame (k + 1 + length rs) r (fold step f (cond b ((k, y) ∷ filter (hits pages page) (enumerate_from (k + 1) rs)) (filter
-        (hits pages page) (enumerate_from (k + 1) rs)))))
+        ≡ cond (touches pages page r) (redone_frame (k + 1 + length rs) r (fold step f (cond b ((k, y) ∷ filter (hits pages page) (enumerate_from (k + 1) rs))
+        (filter (hits pages page) (enumerate_from (k + 1) rs)))))
         (fold step f (cond b ((k, y) ∷ filter (hits pages page) (enumerate_from (k + 1) rs)) (filter (hits pages page) (enumerate_from (k + 1) rs))))
     by_test ih true = ih (redone_frame k y f)
     by_test ih false = ih f
@@ -55,15 +55,15 @@ all-none x pages lsn frames = each-none (redone_page x pages lsn []) 16 frames (
 module _ (x pages applied i : ℕ) (records : List Record) (r : Record) (lt : i < length records) (there : r ≡ get_or records i r) where
   -- the records up to this one
   pub page-more : (page : ℕ) (f : Frame) → redone_by pages page (numbered_after applied (take (i + 1) records)) f
-      ≡ cond (touches pages page r) (redone_frame (applied + i + 1) r (redone_by pages page (numbered_after applied (take i records)) f)) (redone_by pages page
-      (numbered_after applied (take i records)) f)
+      ≡ cond (touches pages page r) (redone_frame (applied + i + 1) r
+      (redone_by pages page (numbered_after applied (take i records)) f)) (redone_by pages page (numbered_after applied (take i records)) f)
   page-more page f =
       let e : i + 1 ≡ suc i = omega arith in
       let whole : take (i + 1) records ≡ take i records ++ r ∷ [] = ap (λ (n : ℕ). take n records) e ∙ take-suc records i r lt ∙ ap (λ (y : Record). take i records ++ y ∷ []) (sym there) in
       let n : applied + 1 + length (take i records) ≡ applied + i + 1 = omega (arith, length-take i records) in
       ap (λ (l : List Record). redone_by pages page (numbered_after applied l) f) whole ∙ redone-push pages page (applied + 1) (take i records) r f
-      ∙ ap (λ (m : ℕ). cond (touches pages page r) (redone_frame m r (redone_by pages page (numbered_after applied (take i records)) f)) (redone_by pages page
-      (numbered_after applied (take i records)) f)) n
+      ∙ ap (λ (m : ℕ). cond (touches pages page r) (redone_frame m r (redone_by pages page (numbered_after applied (take i records)) f))
+      (redone_by pages page (numbered_after applied (take i records)) f)) n
 
   pub all-more : (start old new : List Frame) → old ≡ each_from (redone_page x pages applied (take i records)) 16 start
       → new ≡ each_from (redone_where x (applied + i + 1) r (λ q. touches pages q r)) 16 old

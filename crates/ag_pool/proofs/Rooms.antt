@@ -56,8 +56,8 @@ module _ (x high : ℕ) (log records : List Record) (v : PoolView) (proper : Are
       by_value None e h = bare-room v.pages page (stripe_at v x).applied records (frame v page) e without
       by_value (Some w) e h =
           let parts = and_parts (leb 16 page) (ltb page (16 + v.pages)) on in
-          room v.pages page (stripe_at v x).applied high h.at log records (frame v page) proper (leb-true 16 page parts.0) (ltb-true page
-          (16 + v.pages) parts.1) rise reach is h.low (e ∙ ap Some h.value) fitting without
+          room v.pages page (stripe_at v x).applied high h.at log records (frame v page) proper
+          (leb-true 16 page parts.0) (ltb-true page (16 + v.pages) parts.1) rise reach is h.low (e ∙ ap Some h.value) fitting without
 
   pub stripe-values : IsPool v → x < 16 → AreValuesFrom x log (redone_stripe x records v)
   stripe-values pool few page on own =
@@ -74,6 +74,6 @@ module _ (x high : ℕ) (log records : List Record) (v : PoolView) (proper : Are
       by_value (Some w) e h =
           let parts = and_parts (leb 16 page) (ltb page (16 + v.pages)) on in
           let top = h.high in
-          let after = ahead v.pages page (stripe_at v x).applied high h.at log records (frame v page) proper (leb-true 16 page parts.0) (ltb-true page
-          (16 + v.pages) parts.1) rise reach is h.low (e ∙ ap Some h.value) in
+          let after = ahead v.pages page (stripe_at v x).applied high h.at log records (frame v page) proper
+          (leb-true 16 page parts.0) (ltb-true page (16 + v.pages) parts.1) rise reach is h.low (e ∙ ap Some h.value) in
           subst (λ (o : Option PageValue). IfSome o (IsValueFrom v.pages log high page)) (sym after) (record { at = max high h.at; low = omega arith; high = omega arith; value = refl })

@@ -22,8 +22,8 @@ frame-redone x page records v h on = frame-each (redone_page x v.pages (stripe_a
 pub frame-other : (x page : ℕ) (records : List Record) (v : PoolView) → IsPool v → is_page v page ≡ true → stripe_of page ≢ x → frame (redone_stripe x records v) page ≡ frame v page
 frame-other x page records v h on away =
     frame-redone x page records v h on
-    ∙ ap (λ (b : Bool). cond b (redone_by v.pages page (numbered_after (stripe_at v x).applied records) (frame v page)) (frame v page)) (false_from_ne_true (eqb
-    (stripe_of page) x) (λ is. absurd (away (eqb-true (stripe_of page) x is))))
+    ∙ ap (λ (b : Bool). cond b (redone_by v.pages page (numbered_after (stripe_at v x).applied records) (frame v page)) (frame v page))
+    (false_from_ne_true (eqb (stripe_of page) x) (λ is. absurd (away (eqb-true (stripe_of page) x is))))
 
 pub pool-redone : (x : ℕ) (records : List Record) (v : PoolView) → IsPool v → IsPool (redone_stripe x records v)
 pool-redone x records v h = record {

@@ -165,8 +165,8 @@ module _ (pages page low high at : ℕ) (log records : List Record) (f : Frame) 
       h.full (λ v e lt'.
       let same : Some v ≡ Some (value pages log (max (low + length h.before) at) page) = sym e ∙ so_far in
       let v_is : v ≡ value pages log (max (low + length h.before) at) page = cc in
-      room-step pages page (low + length h.before) log h.entry data_page below proper (here (length h.before) h.entry lt there) v (max
-      (low + length h.before) at) fitting h.touched (omega arith) v_is (omega arith))
+      room-step pages page (low + length h.before) log h.entry data_page below proper (here (length h.before) h.entry lt there)
+      v (max (low + length h.before) at) fitting h.touched (omega arith) v_is (omega arith))
 
 pub exact : (pages page low high : ℕ) (log records : List Record) (f : Frame) → AreProper pages log → 16 ≤ page → page < 16 + pages → low ≤ high → high ≤ length log
     → records ≡ after_to low high log

@@ -25,7 +25,7 @@ loop-page-preserved c =
     let lt : i < length listed = omega arith in
     record {
       count = c.redo_on.ensures.count ∙ c.loop-page.invariant.count;
-      frames = redone-more c.args.x c.args.lsn c.args.entry.now (λ q. contains q (take i listed)) (λ q. eqb q (get_or listed i 0)) (λ q. contains q (take
-          (i + 1) listed)) c.args.frames.now.items c.loop-page.frames.items c.redo_on.new.frames.items
+      frames = redone-more c.args.x c.args.lsn c.args.entry.now (λ q. contains q (take i listed)) (λ q. eqb q (get_or listed i 0))
+          (λ q. contains q (take (i + 1) listed)) c.args.frames.now.items c.loop-page.frames.items c.redo_on.new.frames.items
           (λ q. sym (list_any_more (eqb q) listed i 0 lt)) c.loop-page.invariant.frames c.in_ok-redo_on.ensures.redone;
     }

@@ -1,0 +1,4 @@
+mod Faults
+mod Keys
+mod Modes
+mod Ranges

@@ -1,0 +1,13 @@
+pub mod Splices
+pub mod Sectors
+pub mod Fields
+pub mod Standing
+pub mod Listed
+pub mod Picked
+pub mod Compacting
+pub mod Puts
+pub mod Trims
+pub mod Redoing
+pub mod Marked
+pub mod Headers
+pub mod Stamps
