@@ -23,14 +23,8 @@ module _ {D : Type 0} (keeps : D → Bool) (reads : D → Image) (may_hold : D �
 
   -- a batch that went through, or in which the order was reached
   module _ {A E : Type 0} (fault : E) (old new : ScriptedView D) (pieces : List Piece) where
-    abbrev took : Type 0
-    took = TakesAll (did_of keeps reads may_hold faults) old pieces new
-
-    abbrev fell : Type 0
-    fell = FailsOnTheWay (did_of keeps reads may_hold faults) old pieces new
-
     pub batch_later : (r : Result A E) (went done : Result (Unit {0}) DurableFault) → OnErr r (IsErr went) → (IsErrOf went DiskFault → IsErrOf r fault) → OnOk done (went ≡ Err NoMemory → ⊥)
-        → OnOk r took → (IsErrOf r fault → fell) → OnOk done (faults old.disk ≤ faults new.disk)
+        → OnOk r (TakesAll (did_of keeps reads may_hold faults) old pieces new) → (IsErrOf r fault → FailsOnTheWay (did_of keeps reads may_hold faults) old pieces new) → OnOk done (faults old.disk ≤ faults new.disk)
     batch_later (Ok a) went (Ok v) refused failed known calls broken = calls_later calls.calls old new calls.leads
     batch_later (Err e) (Ok u) (Ok v) refused failed known calls broken = absurd (cc refused)
     batch_later (Err e) (Err DiskFault) (Ok v) refused failed known calls broken = let f = broken (failed refl) in calls_later f.calls old new f.leads
