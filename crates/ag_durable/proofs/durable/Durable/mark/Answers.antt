@@ -64,6 +64,10 @@ pub returns-clause-later : goal.returns-clause-later
 returns-clause-later g c =
     let d = g.D.Disk in
     let i = c.self.inside in
+    let old : DurableView _ = record { disk = i.disk; log = i.log; master = i.master; suspects = i.suspects; appends = i.appends; progress = i.progress } in
+    let had : has_row c.args.page old.suspects ≡ true = subst (λ (v : DurableView _). has_row c.args.page v.suspects ≡ true) (sym c.self.view_is) c.requires.had in
+    let pieces = piece_of (repaired_sector c.args.page i.suspects) ∷ [] in
     subst (λ (v : DurableView _). OnOk c.after_step.result (d.faults v.disk.disk ≤ d.faults c.mark.new.disk.disk)) c.self.view_is
-    (batch_later d.keeps d.reads d.may_hold d.faults RowDiskFault i.disk c.mark.new.disk _ c.mark.result c.taken-went.result c.after_step.result
-    c.taken-went.ensures.refused c.taken-went.ensures.fault c.after_step.ensures.known c.mark.ensures.calls c.mark.ensures.broken)
+    (batch_later d.keeps d.reads d.may_hold d.faults RowDiskFault i.disk c.mark.new.disk pieces c.mark.result c.taken-went.result c.after_step.result
+    c.taken-went.ensures.refused c.taken-went.ensures.fault c.after_step.ensures.known
+    (when_marked (TakesAll (did_of d.keeps d.reads d.may_hold d.faults) i.disk pieces c.mark.new.disk) c.mark.result (has_row c.args.page i.suspects) had c.mark.ensures.told c.mark.ensures.calls) c.mark.ensures.broken)
