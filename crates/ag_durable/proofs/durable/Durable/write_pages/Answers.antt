@@ -10,8 +10,6 @@ use Rattle.ag_durable.specs.Views.{DurableView}
 use Rattle.ag_durable.specs.Coming.{Performs}
 use Rattle.ag_durable.specs.Imaging.{WritesImages}
 use Rattle.ag_durable.proofs.Pagings.{pages_perform, pages_image, pages_stand, pages_rise}
-use Rattle.ag_outside.specs.Calls.{TakesAll}
-use Rattle.ag_outside.specs.Shown.{reads_of, did_of}
 use Rattle.ag_pagestore.specs.declared.fault.PageWriteFault.TheVariants.{DiskFault as PageDiskFault}
 use Rattle.ag_durable.proofs.Appends.{under_goes}
 use Rattle.ag_durable.proofs.Settled.{on_ok1}
