@@ -11,3 +11,4 @@ pub mod Firsts
 pub mod Pagings
 pub mod Torn
 pub mod Fetches
+pub mod Laters

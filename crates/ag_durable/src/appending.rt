@@ -42,6 +42,7 @@ impl<D: Disk> Durable<D> {
         requires room { block_sectors block.now.records ≤ free_sectors self.old.log.log }
         ensures performs { OnOk result (Performs D.reads self.old (Block_write block.now.records ∷ []) self.new) }
         ensures appends { self.new.appends ≡ self.old.appends }
+        ensures later { OnOk result (D.faults self.old.disk.disk ≤ D.faults self.new.disk.disk) }
         ensures fault { IsErrOf result DurableFault.DiskFault → HasRisen (D.faults self.old.disk.disk) (D.faults self.new.disk.disk) }
     {
         head_fits(block.term, block.first);

@@ -1,5 +1,5 @@
 //! A replica's data on its disk, with what memory has of it.
-ghost use Rattle.std.specs.Prelude.{◌≡◌, ◌≢◌};
+ghost use Rattle.std.specs.Prelude.{◌≡◌, ◌≤◌, ◌≢◌};
 ghost use Rattle.ag_writes.specs.Performing.{begun};
 ghost use Rattle.ag_keeping.specs.Keeping.{rules_master};
 ghost use Rattle.ag_durable.specs.Views.{kept_of, reached_of};
@@ -66,6 +66,7 @@ impl<D: Disk> Durable<D> {
         ensures master { self.new.master ≡ self.old.master }
         ensures suspects { self.new.suspects ≡ self.old.suspects }
         ensures appends { self.new.appends ≡ self.old.appends }
+        ensures later { D.faults self.old.disk.disk ≤ D.faults self.new.disk.disk }
     {
         self.disk.arm(arm_of(suffix));
         self.progress = Progress::begun(alloc, suffix);

@@ -54,6 +54,7 @@ fn read_free<D: Disk>(
     ensures size { D.size disk.new.disk ≡ D.size disk.old.disk }
     ensures keeps { D.keeps disk.new.disk ≡ D.keeps disk.old.disk }
     ensures unsynced { disk.new.unsynced ≡ [] }
+    ensures later { D.faults disk.old.disk ≤ D.faults disk.new.disk }
     ensures fault { IsErrOf result DurableFault.DiskFault → HasRisen (D.faults disk.old.disk) (D.faults disk.new.disk) }
 {
     disk.arm(Arm::Free);
@@ -78,6 +79,7 @@ fn read_cells_free<D: Disk>(disk: &mut Scripted<D>, page: u16) -> Result<[Cell; 
     ensures size { D.size disk.new.disk ≡ D.size disk.old.disk }
     ensures keeps { D.keeps disk.new.disk ≡ D.keeps disk.old.disk }
     ensures unsynced { disk.new.unsynced ≡ [] }
+    ensures later { D.faults disk.old.disk ≤ D.faults disk.new.disk }
     ensures fault { IsErrOf result DurableFault.DiskFault → HasRisen (D.faults disk.old.disk) (D.faults disk.new.disk) }
 {
     disk.arm(Arm::Free);
@@ -97,6 +99,7 @@ impl<D: Disk> Durable<D> {
         ensures found { IfOk result (λ got. got ≡ found (image_of (reads_of D.reads self.old.disk) page)) }
         ensures image { result ≡ Ok Sound → image_of (reads_of D.reads self.old.disk) page ≡ readable into.new }
         ensures only { OnOk result (OnlyFetches D.reads self.old self.new) }
+        ensures later { D.faults self.old.disk.disk ≤ D.faults self.new.disk.disk }
         ensures fault { IsErrOf result DurableFault.DiskFault → HasRisen (D.faults self.old.disk.disk) (D.faults self.new.disk.disk) }
     {
         let got = read_free(&mut self.disk, page, into);
@@ -113,6 +116,7 @@ impl<D: Disk> Durable<D> {
         requires page { IsPage page }
         ensures cells { IfOk result (λ cells. cells ≡ page_cells (reads_of D.reads self.old.disk) page) }
         ensures only { OnOk result (OnlyFetches D.reads self.old self.new) }
+        ensures later { D.faults self.old.disk.disk ≤ D.faults self.new.disk.disk }
         ensures fault { IsErrOf result DurableFault.DiskFault → HasRisen (D.faults self.old.disk.disk) (D.faults self.new.disk.disk) }
     {
         let cells = read_cells_free(&mut self.disk, page);

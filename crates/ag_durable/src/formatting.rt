@@ -83,6 +83,7 @@ impl<D: Disk> Durable<D> {
         ensures log { IfOk result (λ v. v.log ≡ record { log = no_log; cut = 0; incarnation = 1; is_closed = false }) }
         ensures rows { IfOk result (λ v. v.suspects ≡ []) }
         ensures appends { IfOk result (λ v. v.appends ≡ true) }
+        ensures later { IfOk result (λ v. D.faults disk.disk ≤ D.faults v.disk.disk) }
         ensures fault { IfErr result (λ x. x.0 ≡ DurableFault.DiskFault → HasRisen (D.faults disk.disk) (D.faults x.1.disk)) }
     {
         let mut disk = disk;

@@ -37,6 +37,7 @@ impl<D: Disk> Durable<D> {
         requires can { can_note page self.old.suspects ≡ true }
         ensures performs { OnOk result (Performs D.reads self.old (Note_write page kind ∷ []) self.new) }
         ensures appends { self.new.appends ≡ self.old.appends }
+        ensures later { OnOk result (D.faults self.old.disk.disk ≤ D.faults self.new.disk.disk) }
         ensures fault { IsErrOf result DurableFault.DiskFault → HasRisen (D.faults self.old.disk.disk) (D.faults self.new.disk.disk) }
     {
         row_fits(page, kind);
@@ -50,6 +51,7 @@ impl<D: Disk> Durable<D> {
         requires had { has_row page self.old.suspects ≡ true }
         ensures performs { OnOk result (Performs D.reads self.old (Repaired_write page ∷ []) self.new) }
         ensures appends { self.new.appends ≡ self.old.appends }
+        ensures later { OnOk result (D.faults self.old.disk.disk ≤ D.faults self.new.disk.disk) }
         ensures fault { IsErrOf result DurableFault.DiskFault → HasRisen (D.faults self.old.disk.disk) (D.faults self.new.disk.disk) }
     {
         let went = taken(self.suspects.mark(&mut self.disk, page));

@@ -115,6 +115,7 @@ fn read_all<D: Disk>(alloc: Global, disk: &mut Scripted<D>) -> Result<Found, Dur
     ensures same { OnOk result (reads_of D.reads disk.new ≡ reads_of D.reads disk.old) }
     ensures synced { OnOk result (Only (reads_of D.reads disk.new) (holds_of D.keeps D.may_hold disk.new)) }
     ensures can { OnOk result (CanLoad D.size D.keeps D.reads disk.new) }
+    ensures later { OnOk result (D.faults disk.old.disk ≤ D.faults disk.new.disk) }
     ensures fault { IsErrOf result DurableFault.DiskFault → HasRisen (D.faults disk.old.disk) (D.faults disk.new.disk) }
 {
     let master = read_master(disk)?;
@@ -139,6 +140,7 @@ impl<D: Disk> Durable<D> {
         ensures log { IfOk result (λ v. v.log ≡ store_on (reads_of D.reads disk)) }
         ensures rows { IfOk result (λ v. v.suspects ≡ suspects_on (reads_of D.reads disk)) }
         ensures appends { IfOk result (λ v. v.appends ≡ false) }
+        ensures later { IfOk result (λ v. D.faults disk.disk ≤ D.faults v.disk.disk) }
         ensures fault { IfErr result (λ x. x.0 ≡ DurableFault.DiskFault → HasRisen (D.faults disk.disk) (D.faults x.1.disk)) }
     {
         let mut disk = disk;

@@ -173,6 +173,7 @@ impl<D: Disk> Durable<D> {
         ensures performs { OnOk result (Performs D.reads self.old (map (λ w. Page_write w.page) pages.now) self.new) }
         ensures images { OnOk result (WritesImages D.reads self.old pages.now self.new) }
         ensures appends { self.new.appends ≡ self.old.appends }
+        ensures later { OnOk result (D.faults self.old.disk.disk ≤ D.faults self.new.disk.disk) }
         ensures fault { IsErrOf result DurableFault.DiskFault → HasRisen (D.faults self.old.disk.disk) (D.faults self.new.disk.disk) }
     {
         are_whole(pages);

@@ -56,7 +56,7 @@ fn cells_of<D: Disk>(disk: &mut Scripted<D>, page: u16) -> Result<[Cell; 16], Du
     ensures cells { IfOk result (λ cells. cells ≡ page_cells (reads_of D.reads disk.old) page) }
     ensures same { OnOk result (reads_of D.reads disk.new ≡ reads_of D.reads disk.old) }
     ensures can { OnOk result (CanLoad D.size D.keeps D.reads disk.new) }
-    ensures later { OnOk result (D.faults disk.old.disk ≤ D.faults disk.new.disk) }
+    ensures later { D.faults disk.old.disk ≤ D.faults disk.new.disk }
     ensures fault { IsErrOf result DurableFault.DiskFault → HasRisen (D.faults disk.old.disk) (D.faults disk.new.disk) }
     ensures size { D.size disk.new.disk ≡ D.size disk.old.disk }
 {
@@ -80,7 +80,7 @@ fn add_torn<D: Disk>(
     ensures torn { OnOk result (torn.new ≡ torn.old ++ (if contains page named.now && not (is_sound (page_cells (reads_of D.reads disk.old) page)) then page ∷ [] else [])) }
     ensures same { OnOk result (reads_of D.reads disk.new ≡ reads_of D.reads disk.old) }
     ensures can { OnOk result (CanLoad D.size D.keeps D.reads disk.new) }
-    ensures later { OnOk result (D.faults disk.old.disk ≤ D.faults disk.new.disk) }
+    ensures later { D.faults disk.old.disk ≤ D.faults disk.new.disk }
     ensures fault { IsErrOf result DurableFault.DiskFault → HasRisen (D.faults disk.old.disk) (D.faults disk.new.disk) }
     ensures size { D.size disk.new.disk ≡ D.size disk.old.disk }
 {
@@ -106,6 +106,7 @@ fn torn<D: Disk>(
     ensures torn { IfOk result (λ torn. torn ≡ torn_pages pages (kept_on pages (reads_of D.reads disk.old)) named.now) }
     ensures same { OnOk result (reads_of D.reads disk.new ≡ reads_of D.reads disk.old) }
     ensures can { OnOk result (CanLoad D.size D.keeps D.reads disk.new) }
+    ensures later { D.faults disk.old.disk ≤ D.faults disk.new.disk }
     ensures fault { IsErrOf result DurableFault.DiskFault → HasRisen (D.faults disk.old.disk) (D.faults disk.new.disk) }
     ensures size { D.size disk.new.disk ≡ D.size disk.old.disk }
 {
@@ -122,6 +123,7 @@ impl<D: Disk> Durable<D> {
         requires known { self.old.progress.came ≢ Came.Unknown }
         ensures reach { IfOk result (λ r. r ≡ reach_of self.old.master.pages (reached_of D.reads self.old)) }
         ensures same { OnOk result (reached_of D.reads self.new ≡ reached_of D.reads self.old) }
+        ensures later { D.faults self.old.disk.disk ≤ D.faults self.new.disk.disk }
         ensures fault { IsErrOf result DurableFault.DiskFault → HasRisen (D.faults self.old.disk.disk) (D.faults self.new.disk.disk) }
     {
         match self.progress.came {

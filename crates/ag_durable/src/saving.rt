@@ -98,6 +98,7 @@ impl<D: Disk> Durable<D> {
         requires cut { CanCut self.old.master self.old.log.log (master_of words.now) log_end }
         ensures performs { OnOk result (Performs D.reads self.old (Master_write (master_of words.now) log_end ∷ []) self.new) }
         ensures appends { self.new.progress.came ≡ Came.Underway → self.new.appends ≡ appends_after self.old.master self.old.appends (sector_master self.old.master (master_of words.now) log_end) }
+        ensures later { OnOk result (D.faults self.old.disk.disk ≤ D.faults self.new.disk.disk) }
         ensures fault { IsErrOf result DurableFault.DiskFault → HasRisen (D.faults self.old.disk.disk) (D.faults self.new.disk.disk) }
     {
         let next = sector_master(&self.master, words, log_end);

@@ -1,5 +1,5 @@
 //! A sync of its own.
-ghost use Rattle.std.specs.Prelude.{◌≡◌, [], OnOk, OnErr, IsErr, IsErrOf};
+ghost use Rattle.std.specs.Prelude.{◌≡◌, ◌≤◌, [], OnOk, OnErr, IsErr, IsErrOf};
 ghost use Rattle.ag_outside.specs.Counts.{HasRisen};
 ghost use Rattle.ag_durable.specs.Coming.{Performs};
 
@@ -26,6 +26,7 @@ impl<D: Disk> Durable<D> {
         requires underway { self.old.progress.came ≡ Came.Underway }
         ensures performs { OnOk result (Performs D.reads self.old [] self.new) }
         ensures appends { self.new.appends ≡ self.old.appends }
+        ensures later { D.faults self.old.disk.disk ≤ D.faults self.new.disk.disk }
         ensures fault { IsErrOf result DurableFault.DiskFault → HasRisen (D.faults self.old.disk.disk) (D.faults self.new.disk.disk) }
     {
         let went = taken(self.disk.sync());

@@ -1,5 +1,7 @@
 use Rattle.std.proofs.Common.{Err, ap, ◌∙◌}
 use Rattle.ag_durable.proofs.Fetches.{still_synced, free_risen}
+use Rattle.ag_outside.specs.declared.order.Arm.TheVariants.{Free}
+use Rattle.ag_durable.proofs.Laters.{ordered_later}
 use Rattle.ag_durable.proofs.fetching.read_free.Goals as goal
 
 pub returns-in-Ok-clause-unsynced : goal.returns-in-Ok-clause-unsynced
@@ -31,3 +33,28 @@ pub returns-in-Err-DiskFault-clause-fault : goal.returns-in-Err-DiskFault-clause
 returns-in-Err-DiskFault-clause-fault g c = λ e.
     let d = g.D.Disk in
     free_risen d.size d.keeps d.reads d.may_hold d.faults c.args.disk.now c.arm.new.self c.read.new.disk c.arm.ensures c.requires.synced (c.read.ensures.broken (c.in-Err-DiskFault.is ∙ ap (λ e. Err e) c.in-Err-DiskFault.field-0-is))
+
+pub returns-in-Ok-clause-later : goal.returns-in-Ok-clause-later
+returns-in-Ok-clause-later g c =
+    let d = g.D.Disk in
+    ordered_later d.keeps d.reads d.may_hold d.faults c.args.disk.now c.arm.new.self c.read.new.disk Free c.arm.ensures c.read.ensures.calls
+
+pub returns-in-Err-Torn-clause-later : goal.returns-in-Err-Torn-clause-later
+returns-in-Err-Torn-clause-later g c =
+    let d = g.D.Disk in
+    ordered_later d.keeps d.reads d.may_hold d.faults c.args.disk.now c.arm.new.self c.read.new.disk Free c.arm.ensures c.read.ensures.calls
+
+pub returns-in-Err-Unreadable-clause-later : goal.returns-in-Err-Unreadable-clause-later
+returns-in-Err-Unreadable-clause-later g c =
+    let d = g.D.Disk in
+    ordered_later d.keeps d.reads d.may_hold d.faults c.args.disk.now c.arm.new.self c.read.new.disk Free c.arm.ensures c.read.ensures.calls
+
+pub returns-in-Err-DiskFault-clause-later : goal.returns-in-Err-DiskFault-clause-later
+returns-in-Err-DiskFault-clause-later g c =
+    let d = g.D.Disk in
+    ordered_later d.keeps d.reads d.may_hold d.faults c.args.disk.now c.arm.new.self c.read.new.disk Free c.arm.ensures c.read.ensures.calls
+
+pub returns-in-Err-NoMemory-clause-later : goal.returns-in-Err-NoMemory-clause-later
+returns-in-Err-NoMemory-clause-later g c =
+    let d = g.D.Disk in
+    ordered_later d.keeps d.reads d.may_hold d.faults c.args.disk.now c.arm.new.self c.read.new.disk Free c.arm.ensures c.read.ensures.calls

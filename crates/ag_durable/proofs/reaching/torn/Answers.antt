@@ -33,5 +33,5 @@ loop-page-preserved g c =
       can = e.can;
       same = e.same ∙ i.same;
       size = c.add_torn.ensures.size ∙ i.size;
-      later = omega (arith, e.later, i.later);
+      later = omega (arith, c.add_torn.ensures.later, i.later);
     }

@@ -10,6 +10,8 @@ use Rattle.ag_durable.specs.declared.progress.Came.TheVariants.{Underway}
 use Rattle.ag_durable.specs.Views.{DurableView}
 use Rattle.ag_durable.specs.Coming.{Performs}
 use Rattle.ag_durable.proofs.Appends.{goes_ready, append_performs, append_stands, append_risen}
+use Rattle.ag_logstore.specs.declared.fault.LogFault.TheVariants.{DiskFault as LogDiskFault}
+use Rattle.ag_durable.proofs.Laters.{batch_later}
 use Rattle.ag_durable.proofs.durable.Durable.append.Goals as goal
 
 pub invariant_of-self : goal.invariant_of-self
@@ -66,3 +68,11 @@ returns-clause-fault g c =
     (append_risen d.size d.keeps d.reads d.may_hold d.faults old c.append_harden.new.disk c.append_harden.new.self c.after_step.new.progress block c.block_sectors_of-sectors.result under c.self.invariant appends f first sectors
     c.append_harden.result c.taken-went.result c.after_step.result c.why.result c.why.ensures c.taken-went.ensures.refused c.taken-went.ensures.fault c.append_harden.ensures.ok c.append_harden.ensures.written c.append_harden.ensures.durable c.append_harden.ensures.calls c.append_harden.ensures.broken
     c.after_step.ensures.went c.after_step.ensures.broke c.after_step.ensures.known c.after_step.ensures.fault c.after_step.ensures.unknown)
+
+pub returns-clause-later : goal.returns-clause-later
+returns-clause-later g c =
+    let d = g.D.Disk in
+    let i = c.self.inside in
+    subst (λ (v : DurableView _). OnOk c.after_step.result (d.faults v.disk.disk ≤ d.faults c.append_harden.new.disk.disk)) c.self.view_is
+    (batch_later d.keeps d.reads d.may_hold d.faults LogDiskFault i.disk c.append_harden.new.disk _ c.append_harden.result c.taken-went.result c.after_step.result
+    c.taken-went.ensures.refused c.taken-went.ensures.fault c.after_step.ensures.known c.append_harden.ensures.calls c.append_harden.ensures.broken)

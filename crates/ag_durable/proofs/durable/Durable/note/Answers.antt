@@ -11,6 +11,8 @@ use Rattle.ag_durable.specs.Views.{DurableView}
 use Rattle.ag_durable.specs.Coming.{Performs}
 use Rattle.ag_durable.proofs.Appends.{under_goes}
 use Rattle.ag_durable.proofs.Rows.{note_facts, row_performs, row_stands, row_risen}
+use Rattle.ag_suspect.specs.declared.fault.SuspectFault.TheVariants.{DiskFault as RowDiskFault}
+use Rattle.ag_durable.proofs.Laters.{batch_later}
 use Rattle.ag_durable.proofs.durable.Durable.note.Goals as goal
 
 pub invariant_of-self : goal.invariant_of-self
@@ -55,3 +57,11 @@ returns-clause-fault g c =
     (row_risen d.size d.keeps d.reads d.may_hold d.faults old c.note.new.disk c.note.new.self c.after_step.new.progress under c.self.invariant (Note_write c.args.page c.args.kind) (record { step = refl; sectors_are = refl; no_page = refl }) (noted_sector c.args.page c.args.kind i.suspects) f.low f.high (noted c.args.page c.args.kind i.suspects) f.stand f.means
     c.note.result c.taken-went.result c.after_step.result c.why.result c.why.ensures c.taken-went.ensures.refused c.taken-went.ensures.fault c.note.ensures.noted c.note.ensures.saved c.note.ensures.durable c.note.ensures.calls c.note.ensures.broken
     c.after_step.ensures.went c.after_step.ensures.broke c.after_step.ensures.known c.after_step.ensures.fault c.after_step.ensures.unknown)
+
+pub returns-clause-later : goal.returns-clause-later
+returns-clause-later g c =
+    let d = g.D.Disk in
+    let i = c.self.inside in
+    subst (λ (v : DurableView _). OnOk c.after_step.result (d.faults v.disk.disk ≤ d.faults c.note.new.disk.disk)) c.self.view_is
+    (batch_later d.keeps d.reads d.may_hold d.faults RowDiskFault i.disk c.note.new.disk _ c.note.result c.taken-went.result c.after_step.result
+    c.taken-went.ensures.refused c.taken-went.ensures.fault c.after_step.ensures.known c.note.ensures.calls c.note.ensures.broken)

@@ -10,6 +10,8 @@ use Rattle.ag_durable.specs.declared.progress.Came.TheVariants.{Underway}
 use Rattle.ag_durable.specs.Views.{DurableView}
 use Rattle.ag_durable.specs.Coming.{Performs}
 use Rattle.ag_durable.proofs.Saves.{save_performs, save_stands, save_risen}
+use Rattle.ag_master.specs.declared.store.MasterFault.TheVariants.{DiskFault as MasterDiskFault}
+use Rattle.ag_durable.proofs.Laters.{batch_later}
 use Rattle.ag_durable.proofs.durable.Durable.save.Goals as goal
 
 pub invariant_of-self : goal.invariant_of-self
@@ -51,3 +53,11 @@ returns-clause-fault g c =
     (save_risen d.size d.keeps d.reads d.may_hold d.faults old c.save.new.disk c.follow.new.log c.follow.new.master c.follow.new.appends c.after_step.new.progress m c.args.log_end c.sector_master-next.result under c.self.invariant can c.sector_master-next.ensures c.has_spelling.ensures.fits
     c.save.result c.taken-went.result c.after_step.result c.why.result c.why.ensures c.taken-went.ensures.refused c.taken-went.ensures.fault c.follow.ensures.went c.follow.ensures.kept c.save.ensures.saved c.save.ensures.durable c.save.ensures.calls c.save.ensures.broken
     c.after_step.ensures.went c.after_step.ensures.broke c.after_step.ensures.known c.after_step.ensures.fault c.after_step.ensures.unknown)
+
+pub returns-clause-later : goal.returns-clause-later
+returns-clause-later g c =
+    let d = g.D.Disk in
+    let i = c.self.inside in
+    subst (λ (v : DurableView _). OnOk c.after_step.result (d.faults v.disk.disk ≤ d.faults c.save.new.disk.disk)) c.self.view_is
+    (batch_later d.keeps d.reads d.may_hold d.faults MasterDiskFault i.disk c.save.new.disk _ c.save.result c.taken-went.result c.after_step.result
+    c.taken-went.ensures.refused c.taken-went.ensures.fault c.after_step.ensures.known c.save.ensures.calls c.save.ensures.broken)

@@ -42,3 +42,8 @@ returns-clause-fault g c =
     (sync_risen d.size d.keeps d.reads d.may_hold d.faults old c.sync.new.self c.after_sync.new.progress under c.self.invariant
     c.sync.result c.taken-went.result c.after_sync.result c.why.result c.why.ensures c.taken-went.ensures.refused c.taken-went.ensures.fault c.sync.ensures.reads c.sync.ensures.durable c.sync.ensures.did
     c.after_sync.ensures.went c.after_sync.ensures.broke c.after_sync.ensures.known c.after_sync.ensures.fault c.after_sync.ensures.unknown)
+
+pub returns-clause-later : goal.returns-clause-later
+returns-clause-later g c =
+    let d = g.D.Disk in
+    subst (λ (v : DurableView _). d.faults v.disk.disk ≤ d.faults c.sync.new.self.disk) c.self.view_is c.sync.ensures.did.later

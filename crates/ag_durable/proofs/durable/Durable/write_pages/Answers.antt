@@ -10,6 +10,10 @@ use Rattle.ag_durable.specs.Views.{DurableView}
 use Rattle.ag_durable.specs.Coming.{Performs}
 use Rattle.ag_durable.specs.Imaging.{WritesImages}
 use Rattle.ag_durable.proofs.Pagings.{pages_perform, pages_image, pages_stand, pages_rise}
+use Rattle.ag_pagestore.specs.declared.fault.PageWriteFault.TheVariants.{DiskFault as PageDiskFault}
+use Rattle.ag_durable.proofs.Appends.{under_goes}
+use Rattle.ag_durable.proofs.Settled.{on_ok1}
+use Rattle.ag_durable.proofs.Laters.{batch_later}
 use Rattle.ag_durable.proofs.durable.Durable.write_pages.Goals as goal
 
 pub invariant_of-self : goal.invariant_of-self
@@ -65,3 +69,14 @@ returns-clause-fault g c =
     (pages_rise d.size d.keeps d.reads d.may_hold d.faults old c.write_batch.new.disk c.after_pages.new.progress ws under c.self.invariant c.requires.batch c.are_whole.ensures within
     c.write_batch.result c.taken-went.result c.after_pages.result c.why.result c.why.ensures c.taken-went.ensures.refused c.taken-went.ensures.fault c.write_batch.ensures.sectors c.write_batch.ensures.durable c.write_batch.ensures.calls c.write_batch.ensures.broken
     c.after_pages.ensures.went c.after_pages.ensures.broke c.after_pages.ensures.known c.after_pages.ensures.fault c.after_pages.ensures.unknown)
+
+pub returns-clause-later : goal.returns-clause-later
+returns-clause-later g c =
+    let d = g.D.Disk in
+    let i = c.self.inside in
+    let old : DurableView _ = record { disk = i.disk; log = i.log; master = i.master; suspects = i.suspects; appends = i.appends; progress = i.progress } in
+    let under : old.progress.came ≡ Underway = ap (λ (v : DurableView _). v.progress.came) c.self.view_is ∙ c.requires.underway in
+    let k = (under_goes d.size d.keeps d.reads d.may_hold d.faults old under c.self.invariant).rest.modelled in
+    subst (λ (v : DurableView _). OnOk c.after_pages.result (d.faults v.disk.disk ≤ d.faults c.write_batch.new.disk.disk)) c.self.view_is
+    (batch_later d.keeps d.reads d.may_hold d.faults PageDiskFault i.disk c.write_batch.new.disk _ c.write_batch.result c.taken-went.result c.after_pages.result
+    c.taken-went.ensures.refused c.taken-went.ensures.fault c.after_pages.ensures.known (on_ok1 _ _ c.write_batch.result c.write_batch.ensures.calls (λ f. f k)) (λ e. c.write_batch.ensures.broken e k))
