@@ -1,7 +1,8 @@
 -- Acts that write nothing, and what stays of a replica whose disk was only read.
-use Rattle.std.proofs.Common.{◌≡◌, ◌≢◌, ℕ, ◌+◌, ◌-◌, ◌<◌, ◌≤◌, Bool, true, false, List, [], ◌∷◌, map, get_or, set, length, refl, sym, ap, subst, ◌∙◌, arith}
+use Rattle.std.proofs.Common.{◌≡◌, ◌≢◌, ℕ, ◌+◌, ◌-◌, ◌<◌, ◌≤◌, Bool, true, false, List, [], ◌∷◌, map, get_or, set, length, refl, sym, ap, subst, ◌∙◌, inl, inr, arith}
 use Rattle.std.proofs.lemmas.List.{get_or-map, map-set}
 use Rattle.ag_master.specs.declared.master.Master.{Master as SectorMaster}
+use Rattle.ag_outside.specs.Counts.{HasRisen}
 use Rattle.ag_outside.specs.Disks.{Image}
 use Rattle.ag_outside.specs.Shown.{reads_of}
 use Rattle.ag_rules.specs.Replica.{Replica, Kept, Page, page, clean_page, with_page}
@@ -116,3 +117,8 @@ module _ {D : Type 0} (reads : D → Image) where
     leading = refl;
     up = λ ahead h. h;
   }
+
+-- a count that has risen has risen since before
+pub risen_since : (a b c : ℕ) → a ≤ b → HasRisen b c → HasRisen a c
+risen_since a b c le (inl lt) = inl (omega (arith, le, lt))
+risen_since a b c le (inr top) = inr top

@@ -1,5 +1,6 @@
 //! The access to a page, by an act that can't go on without it.
-ghost use Rattle.std.specs.Prelude.{◌≡◌, ◌≤◌, Bool, Ok, Some, None, true, false, is_some, IfOk, IfSome, OnOk};
+ghost use Rattle.std.specs.Prelude.{◌≡◌, ◌≤◌, Bool, Ok, Some, None, true, false, is_some, IfOk, IfSome, OnOk, IsErrOf};
+ghost use Rattle.ag_outside.specs.Counts.{HasRisen};
 ghost use Rattle.ag_model.specs.Cells.{has_lost, is_lost, is_sound};
 ghost use Rattle.ag_rules.specs.Replica.{image, is_reverting};
 ghost use Rattle.ag_rules.specs.Access.{kind_of, refusal_of, access};
@@ -40,12 +41,15 @@ fn kind_of(cells: &[Cell; 16], page: u16) -> (u8, Refusal)
 }
 
 /// Notes a bad page, where the list has room, and makes it wait for its repair.
+#[tactic(auto, using(crate::proofs::Quiet::risen_since))]
 fn find_bad<D: Disk>(up: &mut Up<D>, page: u16) -> Result<Refusal, ReplicaFault>
     requires up { IsUp D.reads false up.old }
     requires page { IsDataPage up.old.durable.master.pages page }
     requires waits { (frame up.old.pool page).pending ≡ false }
     requires bad { is_sound (image (kept_of D.reads up.old.durable) page) ≡ false }
     ensures refuses { IfOk result (λ why. Refuses D.reads up.old page up.new why) }
+    ensures later { OnOk result (D.faults up.old.durable.disk.disk ≤ D.faults up.new.durable.disk.disk) }
+    ensures fault { IsErrOf result ReplicaFault.DiskFault → HasRisen (D.faults up.old.durable.disk.disk) (D.faults up.new.durable.disk.disk) }
 {
     if !up.durable.suspects().can_note(page) {
         up.pool.pend(page);
@@ -60,6 +64,7 @@ fn find_bad<D: Disk>(up: &mut Up<D>, page: u16) -> Result<Refusal, ReplicaFault>
 
 /// Accesses a page: its value is in memory then, or the answer is why it is refused. A page that is found bad is noted on the disk, as far as the
 /// event's order lets it come, and waits for its repair.
+#[tactic(auto, using(crate::proofs::Quiet::risen_since))]
 pub fn access<D: Disk>(
     alloc: Global,
     up: &mut Up<D>,
@@ -70,6 +75,8 @@ pub fn access<D: Disk>(
     requires page { IsDataPage up.old.durable.master.pages page }
     ensures opens { result ≡ Ok None → Opens D.reads up.old page up.new }
     ensures refuses { IfOk result (λ r. IfSome r (λ why. Refuses D.reads up.old page up.new why)) }
+    ensures later { OnOk result (D.faults up.old.durable.disk.disk ≤ D.faults up.new.durable.disk.disk) }
+    ensures fault { IsErrOf result ReplicaFault.DiskFault → HasRisen (D.faults up.old.durable.disk.disk) (D.faults up.new.durable.disk.disk) }
 {
     if up.pool.frame(page).pending {
         return Ok(Some(Refusal::Pending { page }));

@@ -1,5 +1,6 @@
 //! A replica as its group opens.
 ghost use Rattle.std.specs.Prelude.{◌≡◌, ◌≤◌, ◌∷◌, [], ℕ, Some, true, false, replicate, if◌then◌else◌, IfOk, IfErr};
+ghost use Rattle.ag_outside.specs.Counts.{HasRisen};
 ghost use Rattle.ag_outside.specs.Shown.{reads_of};
 ghost use Rattle.ag_keeping.specs.Keeping.{rules_master};
 ghost use Rattle.ag_durable.specs.Views.{kept_of};
@@ -65,6 +66,7 @@ fn agrees<D: Disk>(durable: &Durable<D>)
 }
 
 /// Formats a disk of zeros, and writes the block that starts the first term.
+#[tactic(auto, using(crate::proofs::Quiet::risen_since))]
 fn formatted<D: Disk>(
     alloc: Global,
     pages: u16,
@@ -80,6 +82,7 @@ fn formatted<D: Disk>(
     requires block { block.now ≡ record { first = 1; term = 1; records = Term 1 ∷ [] } }
     requires payload { ArePayload block.now.records }
     ensures opened { IfOk result (λ v. IsOpened D.reads pages v) }
+    ensures fault { IfErr result (λ x. x.0 ≡ ReplicaFault.DiskFault → HasRisen (D.faults disk.disk) (D.faults x.1.disk)) }
 {
     let mut durable = match Durable::format(alloc, disk, pages, number) {
         Ok(durable) => durable,
@@ -119,6 +122,7 @@ impl<D: Disk> Up<D> {
         ensures replica { IfOk result (λ u. replica_of D.reads u ≡ opened_replica pages leads leading) }
         ensures up { IfOk result (λ u. IsUp D.reads false u) }
         ensures appends { IfOk result (λ u. u.durable.appends ≡ true) }
+        ensures fault { IfErr result (λ x. x.0 ≡ ReplicaFault.DiskFault → HasRisen (D.faults disk.disk) (D.faults x.1.disk)) }
     {
         let (pool, block) = match memory(alloc, pages) {
             Ok(memory) => memory,

@@ -43,6 +43,7 @@ pub fn read_in<D: Disk>(alloc: Global, up: &mut Up<D>, page: u16) -> Result<bool
     ensures only { OnOk result (OnlyReads D.reads up.old up.new) }
     ensures there { result ≡ Ok true → is_some (frame up.new.pool page).value ≡ true }
     ensures sound { IfOk result (λ there. there ≡ is_sound (image (kept_of D.reads up.old.durable) page)) }
+    ensures later { OnOk result (D.faults up.old.durable.disk.disk ≤ D.faults up.new.durable.disk.disk) }
     ensures fault { IsErrOf result ReplicaFault.DiskFault → HasRisen (D.faults up.old.durable.disk.disk) (D.faults up.new.durable.disk.disk) }
 {
     if up.pool.has(page) {

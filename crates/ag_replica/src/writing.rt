@@ -21,6 +21,7 @@ pub fn note<D: Disk>(up: &mut Up<D>, page: u16, kind: u8) -> Result<(), ReplicaF
     requires page { 1 ≤ page }
     requires can { can_note page up.old.durable.suspects ≡ true }
     ensures wrote { OnOk result (Wrote D.reads up.old (Note_write page kind ∷ []) up.new) }
+    ensures later { OnOk result (D.faults up.old.durable.disk.disk ≤ D.faults up.new.durable.disk.disk) }
     ensures fault { IsErrOf result ReplicaFault.DiskFault → HasRisen (D.faults up.old.durable.disk.disk) (D.faults up.new.durable.disk.disk) }
 {
     Ok(up.durable.note(page, kind)?)
@@ -31,6 +32,7 @@ pub fn mark<D: Disk>(up: &mut Up<D>, page: u16) -> Result<(), ReplicaFault>
     requires up { IsUpSo D.reads up.old }
     requires had { has_row page up.old.durable.suspects ≡ true }
     ensures wrote { OnOk result (Wrote D.reads up.old (Repaired_write page ∷ []) up.new) }
+    ensures later { OnOk result (D.faults up.old.durable.disk.disk ≤ D.faults up.new.durable.disk.disk) }
     ensures fault { IsErrOf result ReplicaFault.DiskFault → HasRisen (D.faults up.old.durable.disk.disk) (D.faults up.new.durable.disk.disk) }
 {
     Ok(up.durable.mark(page)?)
@@ -46,6 +48,7 @@ pub fn append<D: Disk>(up: &mut Up<D>, block: &Block) -> Result<(), ReplicaFault
     requires room { block_sectors block.now.records ≤ free_sectors up.old.durable.log.log }
     ensures wrote { OnOk result (Wrote D.reads up.old (Block_write block.now.records ∷ []) up.new) }
     ensures appends { up.new.durable.appends ≡ up.old.durable.appends }
+    ensures later { OnOk result (D.faults up.old.durable.disk.disk ≤ D.faults up.new.durable.disk.disk) }
     ensures fault { IsErrOf result ReplicaFault.DiskFault → HasRisen (D.faults up.old.durable.disk.disk) (D.faults up.new.durable.disk.disk) }
 {
     Ok(up.durable.append(block)?)
@@ -58,6 +61,7 @@ pub fn save<D: Disk>(up: &mut Up<D>, words: &MasterWords, log_end: u64) -> Resul
     requires state { (words.now.state ≡ 0) ⊎ (words.now.state ≡ 3) ⊎ (words.now.state ≡ 4) }
     requires cut { CanCut up.old.durable.master up.old.durable.log.log (master_of words.now) log_end }
     ensures wrote { OnOk result (Wrote D.reads up.old (Master_write (master_of words.now) log_end ∷ []) up.new) }
+    ensures later { OnOk result (D.faults up.old.durable.disk.disk ≤ D.faults up.new.durable.disk.disk) }
     ensures fault { IsErrOf result ReplicaFault.DiskFault → HasRisen (D.faults up.old.durable.disk.disk) (D.faults up.new.durable.disk.disk) }
 {
     Ok(up.durable.save(words, log_end)?)

@@ -1,4 +1,5 @@
-use Rattle.std.proofs.Common.{◌≡◌, sym, subst, ◌∙◌, refl, ap}
+use Rattle.ag_lists.proofs.Results.{not_ok}
+use Rattle.std.proofs.Common.{arith, ◌≡◌, sym, subst, ◌∙◌, refl, ap}
 use Rattle.ag_outside.specs.Shown.{reads_of}
 use Rattle.ag_rules.specs.Plan.{can_note}
 use Rattle.ag_rules.specs.Access.{kind_of, refusal_of}
@@ -11,6 +12,8 @@ returns-then-not-can_note g c = record {
   refuses =
       full-refuses g.D.Disk.reads c.args.up.now c.args.page c.requires.up c.requires.page c.pend.new.self c.pend.ensures c.requires.waits c.requires.bad
       (ap (can_note c.args.page) (c.suspects.ensures.kept c.requires.up.underway) ∙ sym c.can_note.ensures ∙ c.if-not-can_note.true);
+  later = omega arith;
+  fault = λ e. absurd (not_ok _ _ (sym e));
 }
 
 pub returns : goal.returns
@@ -22,4 +25,6 @@ returns g c =
           c.in_ok-cells.ensures.only c.pend-2.ensures c.requires.waits c.requires.bad
           (ap (can_note c.args.page) (c.suspects.ensures.kept c.requires.up.underway) ∙ sym c.can_note.ensures ∙ c.if-not-can_note.false)
           (c.kind_of-kind.ensures.kind ∙ ap kind_of cells) (c.kind_of-kind.ensures.refusal ∙ ap (λ x. refusal_of x c.args.page) cells) c.in_ok-note.ensures.wrote;
+      later = omega (arith, c.in_ok-cells.ensures.later, c.in_ok-note.ensures.later);
+      fault = λ e. absurd (not_ok _ _ (sym e));
     }

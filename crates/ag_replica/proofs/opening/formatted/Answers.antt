@@ -21,4 +21,5 @@ returns-in-Ok-append g c =
       opened = opened-is reads pages c.in-Ok.durable c.append.new.self (kept_on pages (with_master blank m)) m blank c.requires.low c.requires.high c.requires.zeros (λ page. c.images.ensures.zeros 0 page)
           e.reached e.underway refl e.master e.image (c.agrees.ensures.log ∙ ap (λ (s : StoreView). s.log) e.log) (c.agrees.ensures.master ∙ ap rules_master e.master) (c.agrees.ensures.suspects ∙ e.rows)
           (subst (λ (b : Block). Performs reads c.in-Ok.durable (Block_write b.records ∷ []) c.append.new.self) c.requires.block c.in-Ok-append.ensures.performs) (c.in-Ok-append.ensures.appends ∙ e.appends);
+      fault = tt;
     }

@@ -25,6 +25,7 @@ returns-in-Torn g c = record {
   there = λ e. absurd (answers-apart e);
   sound = sym (is-bad g.D.Disk.reads c.args.up.now c.args.page c.requires.up c.requires.steady c.requires.page c.fetch.new.self c.in_ok-fetch.ensures.only
       (λ e. elim c.in-Torn.is [ inl torn ↦ torn-sound (sym torn ∙ c.in_ok-fetch.ensures.found ∙ e) | inr lost ↦ lost-sound (sym lost ∙ c.in_ok-fetch.ensures.found ∙ e) ]));
+  later = c.in_ok-fetch.ensures.later;
   fault = λ e. absurd (not_ok _ _ (sym e));
 }
   where
