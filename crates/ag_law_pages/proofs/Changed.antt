@@ -1,5 +1,5 @@
 -- What stays right as the master and the suspect rows change, and as images are written.
-use Rattle.std.proofs.Common.{◌≡◌, ℕ, ◌+◌, ◌<◌, ◌≤◌, ◌⊎◌, Bool, true, false, List, [], length, refl, sym, ap, subst, ◌∙◌, inl, inr, arith}
+use Rattle.std.proofs.Common.{◌≡◌, ℕ, ◌<◌, ◌≤◌, ◌⊎◌, Bool, true, false, List, refl, sym, ap, subst, ◌∙◌, inl, inr, arith}
 use Rattle.std.specs.Prelude.{not, ◌&&◌}
 use Rattle.ag_model.specs.declared.answer.Cell.{Cell}
 use Rattle.ag_model.specs.declared.answer.SuspectRow.{SuspectRow}
@@ -10,8 +10,8 @@ use Rattle.ag_rules.specs.Replica.{Kept, Master, image, is_reverting}
 use Rattle.ag_stripe.specs.Known.{Known}
 use Rattle.ag_pool.specs.declared.frame.Frame.{Frame}
 use Rattle.ag_pool.specs.View.{PoolView, stripe_at, frame}
-use Rattle.ag_law_pages.specs.Images.{IsDataPage, IsValueIn, CanRedo, IsShown}
-use Rattle.ag_law_pages.specs.Right.{IsRightDisk, IsRightPage, IsRight, is_own, is_shown, reach}
+use Rattle.ag_law_pages.specs.Images.{IsDataPage, IsValueIn, CanRedo}
+use Rattle.ag_law_pages.specs.Right.{IsRightDisk, IsRightPage, IsRight, is_own, reach}
 use Rattle.ag_law_pages.proofs.Values.{value-redo}
 
 -- what is kept, with another master and other suspect rows

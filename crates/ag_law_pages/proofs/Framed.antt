@@ -1,20 +1,19 @@
 -- What stays right as memory reads pages in, and changes how they stand.
-use Rattle.std.proofs.Common.{◌≡◌, ◌≢◌, ℕ, ◌+◌, ◌-◌, ◌<◌, ◌≤◌, Bool, true, false, List, length, get_or, set, map, refl, sym, ap, subst, ◌∙◌, arith}
-use Rattle.std.specs.Prelude.{Option, Some, None}
+use Rattle.std.proofs.Common.{◌≡◌, ℕ, ◌+◌, ◌-◌, ◌<◌, Bool, true, false, List, length, get_or, set, refl, sym, ap, subst, ◌∙◌, arith}
+use Rattle.std.specs.Prelude.{Some, None}
 use Rattle.std.proofs.lemmas.List.{length-set}
 use Rattle.ag_lists.proofs.Places.{at_set_there}
 use Rattle.ag_lists.proofs.Results.{some_is}
 use Rattle.ag_model.specs.declared.value.PageValue.{PageValue}
 use Rattle.ag_model.specs.Cells.{is_sound}
-use Rattle.ag_model.specs.Prefixes.{end_of}
 use Rattle.ag_model.specs.Rows.{stripe_of}
-use Rattle.ag_rules.specs.Replica.{Kept, Stripe, image, is_reverting}
+use Rattle.ag_rules.specs.Replica.{Kept, Stripe, image}
 use Rattle.ag_stripe.specs.Known.{Known}
 use Rattle.ag_stripe.specs.Known.Known.{Value}
 use Rattle.ag_pool.specs.declared.frame.Frame.{Frame}
 use Rattle.ag_pool.specs.Frames.{empty_frame}
 use Rattle.ag_pool.specs.View.{PoolView, IsPool, stripe_at, frame, with_frame, with_stripes}
-use Rattle.ag_law_pages.specs.Images.{IsDataPage, IsShown, IsValueIn}
+use Rattle.ag_law_pages.specs.Images.{IsDataPage, IsValueIn}
 use Rattle.ag_law_pages.specs.Right.{IsRightPage, IsRight, is_shown, reach}
 
 -- a fact of the frame of each data page, once one frame is another

@@ -1,17 +1,16 @@
 -- What stays right as the log grows, and as the master and the suspect rows change.
-use Rattle.std.proofs.Common.{◌≡◌, ℕ, ◌+◌, ◌<◌, ◌≤◌, Bool, true, false, List, [], ◌++◌, length, refl, sym, ap, subst, ◌∙◌, arith}
+use Rattle.std.proofs.Common.{ℕ, ◌≤◌, Bool, true, false, arith}
 use Rattle.ag_model.specs.declared.record.Log.{Log}
 use Rattle.ag_model.specs.Prefixes.{end_of, IsPrefix}
 use Rattle.ag_model.specs.Proper.{IsProper}
 use Rattle.ag_model.specs.Rows.{stripe_of}
 use Rattle.ag_model.proofs.Prefixes.{prefix_length}
-use Rattle.ag_rules.specs.Replica.{Kept, Master, is_reverting}
+use Rattle.ag_rules.specs.Replica.{Kept}
 use Rattle.ag_stripe.specs.Known.{Known}
 use Rattle.ag_stripe.specs.Spelled.{AreSpelled}
 use Rattle.ag_pool.specs.declared.frame.Frame.{Frame}
 use Rattle.ag_pool.specs.View.{PoolView, stripe_at, frame}
-use Rattle.ag_law_pages.specs.Images.{IsDataPage, IsShown}
-use Rattle.ag_law_pages.specs.Right.{IsRightDisk, IsRightPage, IsRight, is_shown, reach}
+use Rattle.ag_law_pages.specs.Right.{IsRightDisk, IsRightPage, IsRight, reach}
 use Rattle.ag_law_pages.proofs.Values.{longer-value, longer-redo, wider-value}
 
 -- what is kept, with a longer log

@@ -1,5 +1,5 @@
 -- What a replica keeps and has in memory agrees with its log.
-use Rattle.std.specs.Prelude.{◌≡◌, ℕ, ◌≤◌, ◌<◌, [], Option, None, Bool, true, false, not, ◌&&◌, if◌then◌else◌}
+use Rattle.std.specs.Prelude.{◌≡◌, ℕ, ◌≤◌, ◌<◌, [], None, Bool, true, false, not, ◌&&◌, if◌then◌else◌}
 use Rattle.ag_model.specs.Cells.{is_sound}
 use Rattle.ag_model.specs.Prefixes.{end_of}
 use Rattle.ag_model.specs.Proper.{IsProper}
