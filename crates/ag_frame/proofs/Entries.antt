@@ -1,5 +1,5 @@
 -- The entry whose frame holds a page, by its key.
-use Rattle.std.proofs.Common.{◌≡◌, ℕ, Bool, true, false, List, [], ◌∷◌, Some, refl, sym, ap, subst, ◌∙◌, ◌++◌, ◌<◌, ◌==◌, rules, arith, None, is_some, ◌+◌, nat_eq}
+use Rattle.std.proofs.Common.{◌≡◌, ℕ, Bool, true, false, List, [], ◌∷◌, Some, refl, sym, ap, subst, ◌∙◌, ◌++◌, ◌<◌, ◌==◌, rules, arith, None, is_some, ◌+◌, nat_eq, length, suc}
 use Rattle.std.specs.List.{AllByRecursion, IsDistinct}
 use Rattle.std.specs.Map.{keys_of, lookup, lookup_entry, remove_entry, set_value}
 use Rattle.std.specs.Option.{option_map}
@@ -8,7 +8,7 @@ use Rattle.lru.proofs.Pairs.{last_of_push}
 use Rattle.std.specs.Cmp.{nat_eq_equiv}
 use Rattle.ag_frame.specs.declared.frame.Frame.{Frame}
 use Rattle.ag_frame.specs.declared.frame.Frame.TheVariants.{Free, Held}
-use Rattle.ag_frame.specs.Frames.{shown, all_shown, holds, page_of, without, holder, AllBelow}
+use Rattle.ag_frame.specs.Frames.{shown, all_shown, holds, page_of, without, holder, AllBelow, IsNumbered}
 
 pub same_number : (p page : ℕ) → (p == page) ≡ true → p ≡ page
 same_number p page t = search rules
@@ -129,3 +129,32 @@ module _ {T : Type 0} where
     | true ↦ λ t. rw t refl
     | false ↦ λ t. rw t (holder_shows page es)
   ]) refl
+
+  -- what is left of numbered entries where one was found, and what was found
+  abbrev pub IsLeft : ℕ → ℕ → List (ℕ × Frame T) → List (ℕ × Frame T) → Type 0
+  IsLeft n k es rest = (k < n) × AllBelow n rest × (suc (length rest) ≡ length es)
+
+  pub removed : (n k : ℕ) (f : Frame T) (es : List (ℕ × Frame T)) → lookup_entry (nat_eq k) es ≡ Some (k, f) → AllBelow n es → IsLeft n k es (remove_entry (nat_eq k) es)
+  removed n k f [] h a = cc
+  removed n k f (e ∷ es) h a = (elim (nat_eq k e.0) as (λ b. nat_eq k e.0 ≡ b → IsLeft n k (e ∷ es) (remove_entry (nat_eq k) (e ∷ es))) [
+    | true ↦ λ t. let h' = rw t at h in let same : e.0 ≡ k = cc in rw t (subst (λ x. x < n) same a.0, a.1, refl)
+    | false ↦ λ t. let r = removed n k f es (rw t at h) a.1 in rw t (r.0, (a.0, r.1), ap suc r.2)
+  ]) refl
+
+  -- a frame that goes first keeps the numbers
+  pub numbered_first : (n k : ℕ) (f w : Frame T) (es : List (ℕ × Frame T)) → lookup_entry (nat_eq k) es ≡ Some (k, f) → IsNumbered n es → IsNumbered n ((k, w) ∷ remove_entry (nat_eq k) es)
+  numbered_first n k f w es h a = let r = removed n k f es h a.1 in (r.2 ∙ a.0, (r.0, r.1))
+
+  all_below_last : (n k : ℕ) (w : Frame T) (es : List (ℕ × Frame T)) → k < n → AllBelow n es → AllBelow n (es ++ (k, w) ∷ [])
+  all_below_last n k w [] lt a = (lt, tt)
+  all_below_last n k w (e ∷ es) lt a = (a.0, all_below_last n k w es lt a.1)
+
+  length_last : (e : ℕ × Frame T) (es : List (ℕ × Frame T)) → length (es ++ e ∷ []) ≡ suc (length es)
+  length_last e [] = refl
+  length_last e (x ∷ es) = ap suc (length_last e es)
+
+  -- and so does one that goes last
+  pub numbered_last : (n k : ℕ) (f w : Frame T) (es : List (ℕ × Frame T)) → lookup_entry (nat_eq k) es ≡ Some (k, f) → IsNumbered n es → IsNumbered n (remove_entry (nat_eq k) es ++ (k, w) ∷ [])
+  numbered_last n k f w es h a =
+      let rest = remove_entry (nat_eq k) es in let r = removed n k f es h a.1 in
+      (length_last (k, w) rest ∙ (r.2 ∙ a.0), all_below_last n k w rest r.0 r.1)

@@ -1,5 +1,5 @@
 -- The frames of pages, the one used last first. A frame shows the number of a page and the page, or nothing.
-use Rattle.std.specs.Prelude.{ℕ, Bool, false, ◌==◌, ◌<◌, cond, List, [], ◌∷◌, map, Option, Some, None}
+use Rattle.std.specs.Prelude.{ℕ, Bool, false, ◌≡◌, ◌==◌, ◌<◌, cond, List, [], ◌∷◌, length, map, Option, Some, None}
 use Rattle.std.specs.List.{AllByRecursion}
 use Rattle.ag_frame.specs.declared.frame.Frame.{Frame}
 use Rattle.ag_frame.specs.declared.frame.Frame.TheVariants.{Free, Held}
@@ -43,3 +43,7 @@ module _ {T : Type 0} where
   -- each key is below the number
   abbrev pub AllBelow : ℕ → List (ℕ × Frame T) → Type 0
   AllBelow number es = AllByRecursion (λ e. e.0 < number) es
+
+  -- there are n entries, whose keys are the numbers below n, as none stands twice in a cache
+  abbrev pub IsNumbered : ℕ → List (ℕ × Frame T) → Type 0
+  IsNumbered n es = (length es ≡ n) × AllBelow n es

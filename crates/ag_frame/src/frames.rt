@@ -17,15 +17,16 @@ use std::mem;
 use std::num::NonZeroUsize;
 
 /// Frames for pages. A clause sees them as the list of what each holds, the one used last first.
+/// The keys of the cache are the numbers of the frames. All are there from the making on.
 #[derive(Drop)]
 pub struct Frames<T> {
     cache: LruCache<u8, Frame<T>>,
 }
 
 impl<T> Model for Frames<T> {
-    ghost use Rattle.std.specs.Prelude.{ℕ, List, Option, ◌<◌, length};
+    ghost use Rattle.std.specs.Prelude.{ℕ, List, Option, ◌<◌};
     ghost use Rattle.std.specs.Coded.{coded_list, coded×, coded_ℕ, coded_option};
-    ghost use Rattle.ag_frame.specs.Frames.{all_shown};
+    ghost use Rattle.ag_frame.specs.Frames.{all_shown, IsNumbered};
 
     ghost Value = { List (Option (ℕ × T)) };
 
@@ -33,7 +34,7 @@ impl<T> Model for Frames<T> {
 
     ghost view = { λ f. all_shown f.cache.entries };
 
-    ghost invariant = { λ f. 0 < length f.cache.entries };
+    ghost invariant = { λ f. (0 < f.cache.cap) × IsNumbered f.cache.cap f.cache.entries };
 }
 
 /// The number of the frame that holds the page.

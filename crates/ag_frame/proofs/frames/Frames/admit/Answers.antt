@@ -1,7 +1,7 @@
-use Rattle.std.proofs.Common.{◌≡◌, ◌<◌, length, refl, sym, ap, ◌∙◌, subst, arith}
+use Rattle.std.proofs.Common.{◌≡◌, refl, sym, ap, ◌∙◌, subst}
 use Rattle.std.proofs.lemmas.List.{map-append}
-use Rattle.ag_frame.specs.Frames.{shown, all_shown}
-use Rattle.ag_frame.proofs.Entries.{last_is, lent}
+use Rattle.ag_frame.specs.Frames.{shown, all_shown, IsNumbered}
+use Rattle.ag_frame.proofs.Entries.{last_is, lent, numbered_first}
 use Rattle.ag_frame.proofs.frames.Frames.admit.Goals as goal
 
 pub unreachable-requires : goal.unreachable-requires
@@ -12,7 +12,8 @@ unreachable-requires g c =
 pub invariant_of-self : goal.invariant_of-self
 invariant_of-self g c =
     let es = c.self.inside.cache.entries in let k = c.last_number-number.result in let at = last_is es k c.last_number-number.ensures.distinct c.last_number-number.ensures.value in
-    subst (λ xs. 0 < length xs) (sym (lent k _ c.replace.new.dest es at.3)) (omega arith)
+    let n = c.self.inside.cache.cap in
+    (c.self.invariant.0, subst (IsNumbered n) (sym (lent k _ c.replace.new.dest es at.3)) (numbered_first n k at.1 c.replace.new.dest es at.3 c.self.invariant.1))
 
 pub returns-clause-first : goal.returns-clause-first
 returns-clause-first g c =

@@ -1,9 +1,9 @@
-use Rattle.std.proofs.Common.{◌≡◌, ◌++◌, ◌∷◌, [], Some, None, sym, ap, ◌∙◌, nat_eq, arith, option_map}
+use Rattle.std.proofs.Common.{◌≡◌, ◌++◌, ◌∷◌, [], Some, None, sym, ap, ◌∙◌, nat_eq, option_map}
 use Rattle.std.specs.Map.{remove_entry}
-use Rattle.std.proofs.lemmas.List.{map-append, length-append}
+use Rattle.std.proofs.lemmas.List.{map-append}
 use Rattle.ag_frame.specs.declared.frame.Frame.TheVariants.{Held}
 use Rattle.ag_frame.specs.Frames.{shown}
-use Rattle.ag_frame.proofs.Entries.{is_at, not_there, set_last}
+use Rattle.ag_frame.proofs.Entries.{is_at, not_there, set_last, numbered_last}
 use Rattle.ag_frame.proofs.frames.Frames.discard.Goals as goal
 
 pub returns-in_err-number-clause-value : goal.returns-in_err-number-clause-value
@@ -17,7 +17,8 @@ returns-in_err-peek_mut-clause-value g c =
 pub invariant_of-self-2 : goal.invariant_of-self-2
 invariant_of-self-2 g c =
     let es = c.self.inside.cache.entries in let k = c.in_ok-number.number in let at = is_at c.args.page k es c.in_ok-number.ensures.distinct (sym c.in_ok-number.ensures.value) in
-    rw (c.demote.ensures.entries, set_last (nat_eq k) k _ c.replace-taken.new.dest es at.1) (omega (arith, length-append (remove_entry (nat_eq k) es) ((k, c.replace-taken.new.dest) ∷ [])))
+    let n = c.self.inside.cache.cap in let f = c.replace-taken.new.dest in
+    (rw c.demote.ensures.entries c.self.invariant.0, rw (c.demote.ensures.entries, set_last (nat_eq k) k _ f es at.1) (numbered_last n k (Held c.args.page at.0) f es at.1 c.self.invariant.1))
 
 pub returns-clause-value : goal.returns-clause-value
 returns-clause-value g c =

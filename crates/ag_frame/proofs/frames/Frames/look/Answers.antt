@@ -1,8 +1,8 @@
-use Rattle.std.proofs.Common.{◌≡◌, ◌<◌, ◌∷◌, length, Some, refl, sym, ap, ◌∙◌, subst, inl, nat_eq, arith, IsSome, option_map}
+use Rattle.std.proofs.Common.{◌≡◌, ◌∷◌, Some, refl, sym, ap, ◌∙◌, subst, inl, nat_eq, IsSome, option_map}
 use Rattle.std.specs.Map.{remove_entry}
 use Rattle.ag_frame.specs.declared.frame.Frame.TheVariants.{Held}
-use Rattle.ag_frame.specs.Frames.{shown, all_shown, with_page}
-use Rattle.ag_frame.proofs.Entries.{is_at, not_there, lent}
+use Rattle.ag_frame.specs.Frames.{shown, all_shown, with_page, IsNumbered}
+use Rattle.ag_frame.proofs.Entries.{is_at, not_there, lent, numbered_first}
 use Rattle.ag_frame.proofs.frames.Frames.look.Goals as goal
 
 pub returns-in_err-number : goal.returns-in_err-number
@@ -22,7 +22,8 @@ page_mut-requires g c =
 pub invariant_of-self-lent : goal.invariant_of-self-lent
 invariant_of-self-lent g c =
     let es = c.self.inside.cache.entries in let k = c.in_ok-number.number in let at = is_at c.args.page k es c.in_ok-number.ensures.distinct (sym c.in_ok-number.ensures.value) in
-    λ w. subst (λ xs. 0 < length xs) (sym (lent k _ (with_page c.in_ok-self-inside.field-0.now w) es at.1)) (omega arith)
+    let n = c.self.inside.cache.cap in
+    λ w. let f = with_page c.in_ok-self-inside.field-0.now w in (c.self.invariant.0, subst (IsNumbered n) (sym (lent k _ f es at.1)) (numbered_first n k (Held c.args.page at.0) f es at.1 c.self.invariant.1))
 
 pub returns : goal.returns
 returns g c =
