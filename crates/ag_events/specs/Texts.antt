@@ -1,6 +1,7 @@
 -- The one text that is printed for an event.
 use Rattle.std.specs.Prelude.{ℕ, ◌+◌, ◌%◌, List, [], ◌∷◌, ◌++◌, false}
 use Rattle.std.specs.Fmt.{decimal, digits}
+use Rattle.std.specs.List.{flat_map}
 use Rattle.ag_model.specs.declared.config.Config.{Config}
 use Rattle.ag_model.specs.declared.event.Event.{Event}
 use Rattle.ag_model.specs.declared.event.Who.{Who}
@@ -38,3 +39,7 @@ no_group = record { pages = 0; modes = []; workers = 0; readers = 0 }
 -- the line of an event, without its end
 abbrev pub event_text : Event → List ℕ
 event_text e = line_text (words_of no_group e)
+
+-- events, each in a line with its end
+abbrev pub script_text : List Event → List ℕ
+script_text es = flat_map (λ e. event_text e ++ 10 ∷ []) es
